@@ -1,0 +1,4 @@
+pub mod SameReadings
+pub mod LadderLaws
+pub mod SurchargeLaws
+pub mod KeepingCovering

@@ -1,0 +1,11 @@
+pub mod Lists
+pub mod Meets
+pub mod Grows
+pub mod Complete
+pub mod Traces
+pub mod Times
+pub mod Sound
+pub mod Best
+pub mod LawfulFare
+pub mod Filled
+pub mod Tracks

@@ -1,0 +1,12 @@
+pub mod Lists
+pub mod Fare
+pub mod NetworkFare
+pub mod Runs
+pub mod Labels
+pub mod Scan
+pub mod Journey
+pub mod Offers
+pub mod Endless
+pub mod Traces
+pub mod Selection
+pub mod Answers

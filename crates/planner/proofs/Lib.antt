@@ -1,0 +1,10 @@
+mod FirstBad
+mod Picking
+mod Legs
+mod Handing
+mod Askables
+mod Settled
+mod Faulty
+mod Answering
+mod Promises
+mod Accepting

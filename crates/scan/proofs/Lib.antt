@@ -1,0 +1,5 @@
+pub mod Loops
+pub mod Stores
+pub mod Hops
+pub mod WholeRounds
+pub mod HopReads
