@@ -85,14 +85,7 @@ pub(crate) struct Case<'a> {
     pub(crate) legs: usize,
 }
 
-pub(crate) fn hop(
-    trip: u32,
-    from: u32,
-    to: u32,
-    departure: u32,
-    arrival: u32,
-    event: u8,
-) -> Hop {
+pub(crate) fn hop(trip: u32, from: u32, to: u32, departure: u32, arrival: u32, event: u8) -> Hop {
     Hop {
         trip,
         from,
@@ -190,7 +183,14 @@ impl Case<'_> {
             sheet: &mut sheet[0..self.bytes],
             legs: &mut legs[0..self.legs],
         };
-        let outcome = ask(&board, &network, &self.question, &mut store, aboard, &mut out);
+        let outcome = ask(
+            &board,
+            &network,
+            &self.question,
+            &mut store,
+            aboard,
+            &mut out,
+        );
         Ok(Printed {
             outcome,
             sheet,

@@ -59,7 +59,10 @@ impl Printed {
             }
         }
         for place in 0..MOST_LEGS {
-            if !is_same(self.legs[place], legs.get(place).copied().unwrap_or(BLANK_LEG)) {
+            if !is_same(
+                self.legs[place],
+                legs.get(place).copied().unwrap_or(BLANK_LEG),
+            ) {
                 return false;
             }
         }

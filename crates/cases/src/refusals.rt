@@ -51,7 +51,10 @@ fn stops_outside_limits() -> Result<(), Fail> {
         case.stops[2] = stop;
         check(matches!(
             case.refusal()?,
-            Refusal::Network { list: NetworkList::Stops, place: 2 }
+            Refusal::Network {
+                list: NetworkList::Stops,
+                place: 2
+            }
         ))?;
     }
     case.stops[2] = Stop { zone: 63, class: 3 };
@@ -76,7 +79,10 @@ fn footpaths_outside_limits() -> Result<(), Fail> {
     for path in outside {
         check(matches!(
             ferry_and(&[fine[0], path]).refusal()?,
-            Refusal::Network { list: NetworkList::Footpaths, place: 1 }
+            Refusal::Network {
+                list: NetworkList::Footpaths,
+                place: 1
+            }
         ))?;
     }
     Ok(())
@@ -89,7 +95,10 @@ fn a_running_hop_leads_to_a_stop() -> Result<(), Fail> {
     case.hops[4].to = 4;
     check(matches!(
         case.refusal()?,
-        Refusal::Network { list: NetworkList::Hops, place: 4 }
+        Refusal::Network {
+            list: NetworkList::Hops,
+            place: 4
+        }
     ))?;
     case.hops[4].runs = false;
     check(case.is_answered()?)
@@ -117,16 +126,34 @@ fn questions_stops_and_footpaths_come_first() -> Result<(), Fail> {
     case.question.departure = 600;
     check(matches!(case.refusal()?, Refusal::Question(Field::Rides)))?;
     case.question.rides = 2;
-    check(matches!(case.refusal()?, Refusal::Network { list: NetworkList::Stops, place: 0 }))?;
+    check(matches!(
+        case.refusal()?,
+        Refusal::Network {
+            list: NetworkList::Stops,
+            place: 0
+        }
+    ))?;
     case.stops[0].zone = 1;
-    check(matches!(case.refusal()?, Refusal::Network { list: NetworkList::Footpaths, place: 0 }))
+    check(matches!(
+        case.refusal()?,
+        Refusal::Network {
+            list: NetworkList::Footpaths,
+            place: 0
+        }
+    ))
 }
 
 #[test]
 fn hops_outputs_and_the_store_come_next() -> Result<(), Fail> {
     let mut case = faulty_and(&[]);
     case.stops[0].zone = 1;
-    check(matches!(case.refusal()?, Refusal::Network { list: NetworkList::Hops, place: 0 }))?;
+    check(matches!(
+        case.refusal()?,
+        Refusal::Network {
+            list: NetworkList::Hops,
+            place: 0
+        }
+    ))?;
     case.hops[0].to = 1;
     check(matches!(case.refusal()?, Refusal::ShortOutput(OutputList::Sheet)))?;
     case.bytes = 225;

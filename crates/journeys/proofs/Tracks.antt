@@ -43,8 +43,7 @@ tracks-push test room q x xs h = go (any test xs) (ltb (length xs) room) refl
 
 -- one by one
 module _ {A B : Type 0} (room : ℕ) (f : ℕ → A → List B → Run (List B)) (f∞ : ℕ → A → List B → List B)
-  (step : (i : ℕ) (a : A) (xs : List B) → length xs ≤ room → Tracks room (f i a xs) (f∞ i a xs)) (grows : (i : ℕ) (a : A) (xs : List B) → length xs ≤ length (f∞ i a xs)) where
-
+    (step : (i : ℕ) (a : A) (xs : List B) → length xs ≤ room → Tracks room (f i a xs) (f∞ i a xs)) (grows : (i : ℕ) (a : A) (xs : List B) → length xs ≤ length (f∞ i a xs)) where
   fold-grows : (i : ℕ) (items : List A) (xs : List B) → length xs ≤ length (foldi f∞ i items xs)
   fold-grows i [] xs = omega arith
   fold-grows i (a ∷ items) xs = omega (arith, grows i a xs, fold-grows (suc i) items (f∞ i a xs))
@@ -144,41 +143,56 @@ module _ {S : Type 0} (w : Setup S) (room : Room) where
   rides k i h trip ps ls = record { trip = trip; aboard = map (rides-on (w .fare) h) (foldi (board∞ w k i h) 0 ls ps); store = foldi (alight∞ w k i h) 0 (map (rides-on (w .fare) h) (foldi (board∞ w k i h) 0 ls ps)) ls }
 
   riding-beside : (k i : ℕ) (h : Hop) (s : Stage S) → length (s .aboard) ≤ room .aboard → length (s .store) ≤ room .labels
-    → Beside (and-then (boarding (w .fare) room k i h s) (λ t. alighting (w .fare) room k i h (with-aboard t (map (rides-on (w .fare) h) (t .aboard))))) (rides k i h (s .trip) (s .aboard) (s .store)) (length (foldi (board∞ w k i h) 0 (s .store) (s .aboard)))
+      → Beside (and-then (boarding (w .fare) room k i h s) (λ t. alighting (w .fare) room k i h (with-aboard t (map (rides-on (w .fare) h) (t .aboard))))) (rides k i h (s .trip) (s .aboard) (s .store)) (length (foldi (board∞ w k i h) 0 (s .store) (s .aboard)))
   riding-beside k i h s a b = board-go (run-each (board (w .fare) (room .aboard) k i h) 0 (s .store) (s .aboard)) (tracks-boarding k i h (s .store) (s .aboard) a)
     where
       alight-go : (ps : List (Passenger S)) → ps ≡ (foldi (board∞ w k i h) 0 (s .store) (s .aboard)) → length ps ≤ room .aboard → (r : Run (List (Label S))) → Tracks (room .labels) r (foldi (alight∞ w k i h) 0 (map (rides-on (w .fare) h) ps) (s .store))
-        → Beside (within (with-store (with-aboard (with-aboard s ps) (map (rides-on (w .fare) h) ps))) r) (rides k i h (s .trip) (s .aboard) (s .store)) (length (foldi (board∞ w k i h) 0 (s .store) (s .aboard)))
-      alight-go ps e n (on ls) t = (record {
-        trip = refl; aboard = ap (map (rides-on (w .fare) h)) e;
-        store = t .0 ∙ ap (λ l. foldi (alight∞ w k i h) 0 (map (rides-on (w .fare) h) l) (s .store)) e;
-        aboard-fits = simp length-map n; store-fits = t .1 }, omega (arith, ap length e))
+          → Beside (within (with-store (with-aboard (with-aboard s ps) (map (rides-on (w .fare) h) ps))) r) (rides k i h (s .trip) (s .aboard) (s .store)) (length (foldi (board∞ w k i h) 0 (s .store) (s .aboard)))
+      alight-go ps e n (on ls) t = (
+        record {
+          trip = refl;
+          aboard = ap (map (rides-on (w .fare) h)) e;
+          store = t .0 ∙ ap (λ l. foldi (alight∞ w k i h) 0 (map (rides-on (w .fare) h) l) (s .store)) e;
+          aboard-fits = simp length-map n;
+          store-fits = t .1;
+        },
+        omega (arith, ap length e),
+      )
       alight-go ps e n (ended q ls) t = inl (subst (λ l. room .labels < length (foldi (alight∞ w k i h) 0 (map (rides-on (w .fare) h) l) (s .store))) e t)
 
       board-go : (r : Run (List (Passenger S))) → Tracks (room .aboard) r (foldi (board∞ w k i h) 0 (s .store) (s .aboard))
-        → Beside (and-then (within (with-aboard s) r) (λ t. alighting (w .fare) room k i h (with-aboard t (map (rides-on (w .fare) h) (t .aboard))))) (rides k i h (s .trip) (s .aboard) (s .store)) (length (foldi (board∞ w k i h) 0 (s .store) (s .aboard)))
+          → Beside (and-then (within (with-aboard s) r) (λ t. alighting (w .fare) room k i h (with-aboard t (map (rides-on (w .fare) h) (t .aboard))))) (rides k i h (s .trip) (s .aboard) (s .store)) (length (foldi (board∞ w k i h) 0 (s .store) (s .aboard)))
       board-go (on ps) t = alight-go ps (t .0) (t .1) (run-each (alight (w .fare) (room .labels) k i h) 0 (map (rides-on (w .fare) h) ps) (s .store)) (tracks-alighting k i h (map (rides-on (w .fare) h) ps) (s .store) b)
       board-go (ended q ps) t = inr t
 
   -- who stays for a hop
   kept-same : (h : Hop) (s : Stage S) (p : Pass S) → Same s p → (kept h s .trip ≡ h .trip) × (kept h s .aboard ≡ kept∞ w h p) × (kept h s .store ≡ p .store) × (length (kept h s .aboard) ≤ room .aboard) × (length (kept h s .store) ≤ room .labels)
   kept-same h s p m = elim (cases-bool (eqb (s .trip) (h .trip))) [
-      inl e ↦ (let x : kept h s ≡ s = cond-true (eqb (s .trip) (h .trip)) s (emptied (h .trip) s) e in
-        let y : eqb (p .trip) (h .trip) ≡ true = ap (λ (n : ℕ). eqb n (h .trip)) (sym (m .trip)) ∙ e in
-        (ap (λ (d : Stage S). d .trip) x ∙ eqb-true _ _ e, ap (λ (d : Stage S). d .aboard) x ∙ m .aboard ∙ sym (cond-true (eqb (p .trip) (h .trip)) (p .aboard) [] y), ap (λ (d : Stage S). d .store) x ∙ m .store,
-         subst (λ (d : Stage S). length (d .aboard) ≤ room .aboard) (sym x) (m .aboard-fits), subst (λ (d : Stage S). length (d .store) ≤ room .labels) (sym x) (m .store-fits)))
+    | inl e ↦ (let x : kept h s ≡ s = cond-true (eqb (s .trip) (h .trip)) s (emptied (h .trip) s) e in
+        let y : eqb (p .trip) (h .trip) ≡ true = ap (λ (n : ℕ). eqb n (h .trip)) (sym (m .trip)) ∙ e in (
+          ap (λ (d : Stage S). d .trip) x ∙ eqb-true _ _ e,
+          ap (λ (d : Stage S). d .aboard) x ∙ m .aboard ∙ sym (cond-true (eqb (p .trip) (h .trip)) (p .aboard) [] y),
+          ap (λ (d : Stage S). d .store) x ∙ m .store,
+          subst (λ (d : Stage S). length (d .aboard) ≤ room .aboard) (sym x) (m .aboard-fits),
+          subst (λ (d : Stage S). length (d .store) ≤ room .labels) (sym x) (m .store-fits),
+        ))
     | inr e ↦ (let x : kept h s ≡ emptied (h .trip) s = cond-false (eqb (s .trip) (h .trip)) s (emptied (h .trip) s) e in
-        let y : eqb (p .trip) (h .trip) ≡ false = ap (λ (n : ℕ). eqb n (h .trip)) (sym (m .trip)) ∙ e in
-        (ap (λ (d : Stage S). d .trip) x, ap (λ (d : Stage S). d .aboard) x ∙ sym (cond-false (eqb (p .trip) (h .trip)) (p .aboard) [] y), ap (λ (d : Stage S). d .store) x ∙ m .store,
-         subst (λ (d : Stage S). length (d .aboard) ≤ room .aboard) (sym x) (omega arith), subst (λ (d : Stage S). length (d .store) ≤ room .labels) (sym x) (m .store-fits))) ]
+        let y : eqb (p .trip) (h .trip) ≡ false = ap (λ (n : ℕ). eqb n (h .trip)) (sym (m .trip)) ∙ e in (
+          ap (λ (d : Stage S). d .trip) x,
+          ap (λ (d : Stage S). d .aboard) x ∙ sym (cond-false (eqb (p .trip) (h .trip)) (p .aboard) [] y),
+          ap (λ (d : Stage S). d .store) x ∙ m .store,
+          subst (λ (d : Stage S). length (d .aboard) ≤ room .aboard) (sym x) (omega arith),
+          subst (λ (d : Stage S). length (d .store) ≤ room .labels) (sym x) (m .store-fits),
+        ))
+  ]
 
   hop-beside : (k i : ℕ) (h : Hop) (s : Stage S) (p : Pass S) → Same s p → Beside (pass-hop (w .fare) room k i h s) (hop∞ w k i h p) (crowd∞ w k i h p)
   unfolding pass-hop hop∞ carried∞
   hop-beside k i h s p m = go (h .runs) (kept-same h s p m) (λ x y. riding-beside k i h (kept h s) x y)
     where
       go : (b : Bool) → (kept h s .trip ≡ h .trip) × (kept h s .aboard ≡ kept∞ w h p) × (kept h s .store ≡ p .store) × (length (kept h s .aboard) ≤ room .aboard) × (length (kept h s .store) ≤ room .labels)
-        → (length (kept h s .aboard) ≤ room .aboard → length (kept h s .store) ≤ room .labels → Beside (riding (w .fare) room k i h s) (rides k i h (kept h s .trip) (kept h s .aboard) (kept h s .store)) (length (foldi (board∞ w k i h) 0 (kept h s .store) (kept h s .aboard))))
-        → Beside (cond b (riding (w .fare) room k i h s) (on (emptied (h .trip) s)))
+          → (length (kept h s .aboard) ≤ room .aboard → length (kept h s .store) ≤ room .labels → Beside (riding (w .fare) room k i h s) (rides k i h (kept h s .trip) (kept h s .aboard) (kept h s .store)) (length (foldi (board∞ w k i h) 0 (kept h s .store) (kept h s .aboard))))
+          → Beside (cond b (riding (w .fare) room k i h s) (on (emptied (h .trip) s)))
           (cond b (record { trip = h .trip; aboard = map (rides-on (w .fare) h) (foldi (board∞ w k i h) 0 (p .store) (kept∞ w h p)); store = foldi (alight∞ w k i h) 0 (map (rides-on (w .fare) h) (foldi (board∞ w k i h) 0 (p .store) (kept∞ w h p))) (p .store) }) (record { trip = h .trip; aboard = []; store = p .store }))
           (cond b (length (foldi (board∞ w k i h) 0 (p .store) (kept∞ w h p))) 0)
       go true g ran =
@@ -221,11 +235,11 @@ module _ {S : Type 0} (w : Setup S) (room : Room) where
   walks-longer k ls = grown-longer _ _ _ (foot-grown w k ls)
 
   round-along : (k : ℕ) (s : Stage S) (ls : List (Label S)) (crowd : ℕ) → s .store ≡ ls → length (s .store) ≤ room .labels → crowd ≤ room .aboard
-    → Along (round (w .fare) room (w .hops) (w .paths) (suc k) s) (walks∞ w (suc k) (pass∞ w (suc k) ls (count-of (w .hops)) .store)) (max crowd (pass-crowd∞ w (suc k) ls (count-of (w .hops))))
+      → Along (round (w .fare) room (w .hops) (w .paths) (suc k) s) (walks∞ w (suc k) (pass∞ w (suc k) ls (count-of (w .hops)) .store)) (max crowd (pass-crowd∞ w (suc k) ls (count-of (w .hops))))
   round-along k s ls crowd e n c = go (pass-hops (w .fare) room (w .hops) (suc k) s (count-of (w .hops))) (pass-beside (suc k) s ls e n (count-of (w .hops)))
     where
       go : (r : Run (Stage S)) → Beside r (pass∞ w (suc k) ls (count-of (w .hops))) (pass-crowd∞ w (suc k) ls (count-of (w .hops)))
-        → Along (and-then r (walking (w .fare) room (w .hops) (w .paths) (suc k))) (walks∞ w (suc k) (pass∞ w (suc k) ls (count-of (w .hops)) .store)) (max crowd (pass-crowd∞ w (suc k) ls (count-of (w .hops))))
+          → Along (and-then r (walking (w .fare) room (w .hops) (w .paths) (suc k))) (walks∞ w (suc k) (pass∞ w (suc k) ls (count-of (w .hops)) .store)) (max crowd (pass-crowd∞ w (suc k) ls (count-of (w .hops))))
       go (on t) b = walking-along (suc k) t (pass∞ w (suc k) ls (count-of (w .hops)) .store) _ (b .0 .store) (b .0 .store-fits) (omega (arith, b .1, c))
       go (ended q t) (inl x) = inl (omega (arith, x, walks-longer (suc k) (pass∞ w (suc k) ls (count-of (w .hops)) .store)))
       go (ended q t) (inr x) = inr (omega (arith, x))

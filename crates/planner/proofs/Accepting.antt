@@ -51,7 +51,7 @@ module _ {S : Type 0} (f : FareModel S) (hops : List Hop) (stops : List Stop) (p
   offers-decide s a = go (ltb most-rows (length (best-offers f (q .destination) (s .store)))) refl
     where
       go : (b : Bool) → ltb most-rows (length (best-offers f (q .destination) (s .store))) ≡ b
-        → Decides (isOk (cond b (refused (ManyOffers (length (best-offers f (q .destination) (s .store)))) (used s m)) (record { answer = Ok (counted f (q .destination) s); left = printed f (q .destination) s m }) .answer)) Fits
+          → Decides (isOk (cond b (refused (ManyOffers (length (best-offers f (q .destination) (s .store)))) (used s m)) (record { answer = Ok (counted f (q .destination) s); left = printed f (q .destination) s m }) .answer)) Fits
       go true e = ((λ z. absurd (false≢true z)), λ x. absurd (omega (arith, x .few-offers, ltb-true most-rows _ e, ap (λ ls. length (best-offers f (q .destination) ls)) (a .0))))
       go false e = ((λ z. record { labels-fit = omega (arith, a .1, ap length (a .0)); aboard-fit = a .2; few-offers = omega (arith, ltb-false most-rows _ e, ap (λ ls. length (best-offers f (q .destination) ls)) (a .0)) }), λ x. refl)
 
@@ -70,6 +70,7 @@ module _ {S : Type 0} (f : FareModel S) (hops : List Hop) (stops : List Stop) (p
       go (Some refusal) e = ((λ z. absurd (false≢true z)), λ x. absurd (let n = no-fault-found q stops paths hops (length (m .sheet)) (length (m .legs)) (x .askable) in let z : _≡_ {A = ℕ} 0 1 = cc in omega arith))
       go None e =
           let lim = limits q stops paths hops (length (m .sheet)) (length (m .legs)) e in
-          let d = scan-decides (scan-for f hops paths q (m .labels) (m .aboard)) (scan-along w room (lim .count) (m .aboard) (q .rides)) in
-          ((λ z. let x = d .0 z in record { askable = askable q stops paths hops (length (m .sheet)) (length (m .legs)) e; labels-fit = x .labels-fit; aboard-fit = x .aboard-fit; few-offers = x .few-offers }),
-           λ x. d .1 (record { labels-fit = x .labels-fit; aboard-fit = x .aboard-fit; few-offers = x .few-offers }))
+          let d = scan-decides (scan-for f hops paths q (m .labels) (m .aboard)) (scan-along w room (lim .count) (m .aboard) (q .rides)) in (
+            (λ z. let x = d .0 z in record { askable = askable q stops paths hops (length (m .sheet)) (length (m .legs)) e; labels-fit = x .labels-fit; aboard-fit = x .aboard-fit; few-offers = x .few-offers }),
+            λ x. d .1 (record { labels-fit = x .labels-fit; aboard-fit = x .aboard-fit; few-offers = x .few-offers }),
+          )

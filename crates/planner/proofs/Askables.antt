@@ -124,11 +124,11 @@ no-fault-found q stops paths hops bytes legs o =
     let few = o .few-hops in
     let all : take most-hops hops ≡ hops = take-all most-hops hops (omega arith) in
     let question : question-fault q (length stops) (count-of hops) ≡ None =
-          cond-false (leb (length stops) (q .origin)) _ _ (lt-leb _ _ (o .origin))
-          ∙ cond-false (leb (length stops) (q .destination)) _ _ (lt-leb _ _ (o .destination))
-          ∙ cond-false (ltb day-end (q .departure)) _ _ (le-ltb _ _ (o .departure))
-          ∙ cond-false (ltb (q .rides) 1 || ltb most-rides (q .rides)) _ _ (or-from _ _ (le-ltb _ _ (o .some-rides)) (le-ltb _ _ (o .few-rides)))
-          ∙ cond-false (leb most-hops (count-of hops)) _ _ (lt-leb _ _ (omega arith)) in
+    cond-false (leb (length stops) (q .origin)) _ _ (lt-leb _ _ (o .origin))
+    ∙ cond-false (leb (length stops) (q .destination)) _ _ (lt-leb _ _ (o .destination))
+    ∙ cond-false (ltb day-end (q .departure)) _ _ (le-ltb _ _ (o .departure))
+    ∙ cond-false (ltb (q .rides) 1 || ltb most-rides (q .rides)) _ _ (or-from _ _ (le-ltb _ _ (o .some-rides)) (le-ltb _ _ (o .few-rides)))
+    ∙ cond-false (leb most-hops (count-of hops)) _ _ (lt-leb _ _ (omega arith)) in
     let s : stops-fault stops ≡ None = cond-false (ltb most-stops (length stops)) _ _ (le-ltb _ _ (o .few-stops)) ∙ all-good stop-within 0 stops (each-imp StopOk (λ x. stop-within x ≡ true) stop-tested stops (o .stops-ok)) in
     let p : paths-fault (length stops) paths ≡ None = cond-false (ltb most-paths (length paths)) _ _ (le-ltb _ _ (o .few-paths)) ∙ all-good (path-within (length stops)) 0 paths (each-imp (PathOk (length stops)) (λ x. path-within (length stops) x ≡ true) (path-tested (length stops)) paths (o .paths-ok)) in
     let h : hops-fault (length stops) hops ≡ None = ap (first-bad (hop-within (length stops)) 0) all ∙ all-good (hop-within (length stops)) 0 hops (each-imp (HopOk (length stops)) (λ x. hop-within (length stops) x ≡ true) (hop-tested (length stops)) hops (o .hops-ok)) in

@@ -8,3 +8,4 @@ mod Faulty
 mod Answering
 mod Promises
 mod Accepting
+mod SameSheets

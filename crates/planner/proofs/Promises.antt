@@ -6,7 +6,7 @@ use mathlib.Core.Path.{_≡_, refl, sym, _∙_, ap, subst}
 use Prim.Native.Nat.{ℕ, zero, suc, _<_, _≤_}
 use native.Mathlib.Omega.{arith}
 use lib.Dec.{ltb, lit<}
-use lib.ListN.{length, take, length-map}
+use lib.ListN.{length, take, length-map, length-append}
 use Rattle.std.specs.declared.result.Result.the-variants.{Ok, Err}
 use Rattle.std.proofs.shelf.Tests.{cond-true, cond-false, cases-lt, lt-ltb, le-ltb}
 use Rattle.timetable.specs.declared.hops.Hop.{Hop}
@@ -55,11 +55,13 @@ module _ {S : Type 0} (ls : List (Label S)) where
 
 -- the rows of a store that answer a question are what its sheet shows
 shown : {S : Type 0} (w : Setup S) (dest limit : ℕ) (ls : List (Label S)) (os : List BestOffer) → Answers w dest limit os (λ r. legs-of ls (r .label)) → Good (map row-of os)
-    → (answer : Answer) (bytes : List ℕ) (walked : List SheetLeg) → length os ≡ answer .rows → take (answer .bytes) bytes ≡ encode (map row-of os) → take (answer .legs) walked ≡ legs-from ls 0 os
+    → (answer : Answer) (bytes : List ℕ) (walked : List SheetLeg) → length os ≡ answer .rows → answer .bytes ≤ length bytes → answer .legs ≤ length walked → take (answer .bytes) bytes ≡ encode (map row-of os) → take (answer .legs) walked ≡ legs-from ls 0 os
     → Shows w dest limit answer bytes walked
-shown w dest limit ls os a good answer bytes walked n b l = record {
+shown w dest limit ls os a good answer bytes walked n x y b l = record {
   connections = map (connection ls) os;
   rows = length-map os (connection ls) ∙ n;
+  bytes-fit = x;
+  legs-fit = y;
   sheet = b ∙ ap encode (sym (connected-rows ls os));
   legs = l ∙ sym (connected-legs ls os 0);
   good = subst Good (sym (connected-rows ls os)) good;
@@ -87,7 +89,7 @@ module _ {S : Type 0} (f : FareModel S) (laws : FareLaws f) (low : (s : S) → f
         | inr h ↦ subst (λ o. Promised w (q .destination) (q .rides) (o .answer) (o .left .sheet) (o .left .legs)) (sym (cond-false (ltb most-rows (length os)) (refused (ManyOffers (length os)) (used s m)) (record { answer = Ok (counted f (q .destination) s); left = printed f (q .destination) s m }) (le-ltb most-rows (length os) h)))
             (shown w (q .destination) (q .rides) (s .store) os (subst (λ ls. Answers w (q .destination) (q .rides) (best-offers f (q .destination) ls) (λ r. legs-of ls (r .label))) (sym e) best-answer)
             (subst (λ ls. length (best-offers f (q .destination) ls) ≤ 32 → Good (map row-of (best-offers f (q .destination) ls))) (sym e) (good-rows f q stops paths hops bytes legs rule lim) h)
-            (counted f (q .destination) s) (printed f (q .destination) s m .sheet) (printed f (q .destination) s m .legs) refl
+            (counted f (q .destination) s) (printed f (q .destination) s m .sheet) (printed f (q .destination) s m .legs) refl (simp length-append (omega arith)) (simp length-append (omega arith))
             (take-overlay (encode (map row-of os)) (m .sheet) (length (encode (map row-of os))) refl) (take-overlay (legs-from (s .store) 0 os) (m .legs) (length (legs-from (s .store) 0 os)) refl))
       ]
 

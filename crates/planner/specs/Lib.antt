@@ -6,3 +6,4 @@ pub mod Handout
 pub mod Outcome
 pub mod Promise
 pub mod Acceptance
+pub mod Comparing

@@ -2,7 +2,7 @@
 -- Assumes nothing.
 use mathlib.Core.List.{List, [], _∷_, _++_, map}
 use mathlib.Core.Path.{_≡_}
-use Prim.Native.Nat.{ℕ, suc}
+use Prim.Native.Nat.{ℕ, suc, _≤_}
 use lib.ListN.{length, take}
 use Rattle.std.specs.declared.result.Result.{Result}
 use Rattle.std.specs.declared.result.Result.the-variants.{Ok, Err}
@@ -48,6 +48,8 @@ pub record HandedOut {S : Type 0} (w : Setup S) (dest limit : ℕ) (c : Connecti
 pub record Shows {S : Type 0} (w : Setup S) (dest limit : ℕ) (answer : Answer) (bytes : List ℕ) (walked : List SheetLeg) : Type 0 where
   pub connections : List Connection
   pub rows : length connections ≡ answer .rows
+  pub bytes-fit : answer .bytes ≤ length bytes
+  pub legs-fit : answer .legs ≤ length walked
   pub sheet : take (answer .bytes) bytes ≡ encode (map (λ c. c .row) connections)
   pub legs : take (answer .legs) walked ≡ spelled-out 0 connections
   -- at most 32 rows in range, by rising arrival and falling price
