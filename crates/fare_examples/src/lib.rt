@@ -6,5 +6,7 @@
 mod every_kind;
 #[cfg(test)]
 mod tests;
+#[cfg(test)]
+mod worked;
 
 pub use every_kind::every_kind_keeps_covering;

@@ -51,7 +51,7 @@ module _ {S : Type 0} (f : FareModel S) (hops : List Hop) (stops : List Stop) (p
   offers-decide s a = go (ltb most-rows (length (best-offers f (q .destination) (s .store)))) refl
     where
       go : (b : Bool) → ltb most-rows (length (best-offers f (q .destination) (s .store))) ≡ b
-          → Decides (isOk (cond b (refused (ManyOffers (length (best-offers f (q .destination) (s .store)))) (used s m)) (record { answer = Ok (counted f (q .destination) s); left = printed f (q .destination) s m }) .answer)) Fits
+          → Decides (isOk (cond b (refused (ManyOffers (length (best-offers f (q .destination) (s .store)))) (used (length (s .store)) s m)) (record { answer = Ok (counted f (q .destination) s); left = printed f (q .destination) s m }) .answer)) Fits
       go true e = ((λ z. absurd (false≢true z)), λ x. absurd (omega (arith, x .few-offers, ltb-true most-rows _ e, ap (λ ls. length (best-offers f (q .destination) ls)) (a .0))))
       go false e = ((λ z. record { labels-fit = omega (arith, a .1, ap length (a .0)); aboard-fit = a .2; few-offers = omega (arith, ltb-false most-rows _ e, ap (λ ls. length (best-offers f (q .destination) ls)) (a .0)) }), λ x. refl)
 

@@ -37,13 +37,14 @@ module _ {S : Type 0} (f : FareModel S) (dest : ℕ) (m : Memory S) where
   room = record { labels = length (m .labels); aboard = length (m .aboard) }
 
   -- a full list has ended the scan
-  pub ended-leaves : (r : Run (Stage S)) (full : Full) (n : ℕ) (labels : List (Label S)) (aboard : List (Passenger S)) → Throughout (StoreFew f room) (StoreFilled f room) r → Err full ≡ told r
-      → labels ≡ overlay (result-of r .store) (m .labels) → aboard ≡ result-of r .places → n ≡ length labels
-      → Leaves (scanned f dest m r) (Err (scan-refusal full n)) labels aboard (m .sheet) (m .legs)
-  ended-leaves (on s) full n labels aboard t e a b c = absurd (let z : _≡_ {A = ℕ} 0 1 = cc in omega arith)
-  ended-leaves (ended q s) full n labels aboard t e a b c = record {
+  pub ended-leaves : (r : Run (Stage S)) (full : Full) (n : ℕ) (labels : List (Label S)) (written : ℕ) (aboard : List (Passenger S)) → Throughout (StoreFew f room) (StoreFilled f room) r → Err full ≡ told r
+      → labels ≡ overlay (result-of r .store) (m .labels) → written ≡ used-after r → aboard ≡ result-of r .places → n ≡ length labels
+      → Leaves (scanned f dest m r) (Err (scan-refusal full n)) labels written aboard (m .sheet) (m .legs)
+  ended-leaves (on s) full n labels written aboard t e a u b c = absurd (let z : _≡_ {A = ℕ} 0 1 = cc in omega arith)
+  ended-leaves (ended q s) full n labels written aboard t e a u b c = record {
     answer = ap (λ (k : Full). Err (scan-refusal k n)) (let z : full ≡ q = cc in z) ∙ ap Err (same q (t .1));
     labels = a;
+    written = u;
     aboard = b;
     sheet = refl;
     legs = refl;
@@ -66,21 +67,21 @@ module _ {S : Type 0} (f : FareModel S) (dest : ℕ) (m : Memory S) where
       (λ v. take ((u ∙ ap used-after e) v) ((a ∙ ap (λ (z : Run (Stage S)). overlay (result-of z .store) (m .labels)) e) v)) ∙ take-overlay (s .store) (m .labels) (length (s .store)) refl
 
   -- more than 32 best offers
-  pub many-leaves : (r : Run (Stage S)) (s : Stage S) (count : ℕ) (labels : List (Label S)) (aboard : List (Passenger S)) → r ≡ on s → count ≡ length (best-offers f dest (s .store)) → 32 < count
-      → labels ≡ overlay (result-of r .store) (m .labels) → aboard ≡ result-of r .places
-      → Leaves (scanned f dest m r) (Err (ManyOffers count)) labels aboard (m .sheet) (m .legs)
-  many-leaves r s count labels aboard e c h a b =
-      subst (λ o. Leaves o (Err (ManyOffers count)) labels aboard (m .sheet) (m .legs)) (sym (ap (scanned f dest m) e ∙ cond-true (ltb most-rows (length (best-offers f dest (s .store)))) _ _ (lt-ltb most-rows _ (omega arith))))
-      (record { answer = ap (λ (n : ℕ). Err (ManyOffers n)) c; labels = a ∙ ap (λ (z : Run (Stage S)). overlay (result-of z .store) (m .labels)) e; aboard = b ∙ ap (λ (z : Run (Stage S)). result-of z .places) e; sheet = refl; legs = refl })
+  pub many-leaves : (r : Run (Stage S)) (s : Stage S) (count : ℕ) (labels : List (Label S)) (written : ℕ) (aboard : List (Passenger S)) → r ≡ on s → count ≡ length (best-offers f dest (s .store)) → 32 < count
+      → labels ≡ overlay (result-of r .store) (m .labels) → written ≡ used-after r → aboard ≡ result-of r .places
+      → Leaves (scanned f dest m r) (Err (ManyOffers count)) labels written aboard (m .sheet) (m .legs)
+  many-leaves r s count labels written aboard e c h a u b =
+      subst (λ o. Leaves o (Err (ManyOffers count)) labels written aboard (m .sheet) (m .legs)) (sym (ap (scanned f dest m) e ∙ cond-true (ltb most-rows (length (best-offers f dest (s .store)))) _ _ (lt-ltb most-rows _ (omega arith))))
+      (record { answer = ap (λ (n : ℕ). Err (ManyOffers n)) c; labels = a ∙ ap (λ (z : Run (Stage S)). overlay (result-of z .store) (m .labels)) e; written = u ∙ ap used-after e; aboard = b ∙ ap (λ (z : Run (Stage S)). result-of z .places) e; sheet = refl; legs = refl })
 
   -- at most 32 of them, which are written
-  pub few-leaves : (r : Run (Stage S)) (s : Stage S) (answer : Answer) (labels : List (Label S)) (aboard : List (Passenger S)) (sheet : List ℕ) (legs : List Leg) → r ≡ on s → length (best-offers f dest (s .store)) ≤ 32
-      → labels ≡ overlay (result-of r .store) (m .labels) → aboard ≡ result-of r .places
+  pub few-leaves : (r : Run (Stage S)) (s : Stage S) (answer : Answer) (labels : List (Label S)) (written : ℕ) (aboard : List (Passenger S)) (sheet : List ℕ) (legs : List Leg) → r ≡ on s → length (best-offers f dest (s .store)) ≤ 32
+      → labels ≡ overlay (result-of r .store) (m .labels) → written ≡ used-after r → aboard ≡ result-of r .places
       → answer ≡ counted f dest s → sheet ≡ printed f dest s m .sheet → legs ≡ printed f dest s m .legs
-      → Leaves (scanned f dest m r) (Ok answer) labels aboard sheet legs
-  few-leaves r s answer labels aboard sheet legs e h a b c d g =
-      subst (λ o. Leaves o (Ok answer) labels aboard sheet legs) (sym (ap (scanned f dest m) e ∙ cond-false (ltb most-rows (length (best-offers f dest (s .store)))) _ _ (le-ltb most-rows _ h)))
-      (record { answer = ap Ok c; labels = a ∙ ap (λ (z : Run (Stage S)). overlay (result-of z .store) (m .labels)) e; aboard = b ∙ ap (λ (z : Run (Stage S)). result-of z .places) e; sheet = d; legs = g })
+      → Leaves (scanned f dest m r) (Ok answer) labels written aboard sheet legs
+  few-leaves r s answer labels written aboard sheet legs e h a u b c d g =
+      subst (λ o. Leaves o (Ok answer) labels written aboard sheet legs) (sym (ap (scanned f dest m) e ∙ cond-false (ltb most-rows (length (best-offers f dest (s .store)))) _ _ (le-ltb most-rows _ h)))
+      (record { answer = ap Ok c; labels = a ∙ ap (λ (z : Run (Stage S)). overlay (result-of z .store) (m .labels)) e; written = u ∙ ap used-after e; aboard = b ∙ ap (λ (z : Run (Stage S)). result-of z .places) e; sheet = d; legs = g })
 
 -- the best offers, where they fit
 pub offers-taken : (best blank offers : List BestOffer) (count : ℕ) → count ≡ length best → count ≤ length blank → offers ≡ overlay (take (length blank) best) blank → take (count - 0) offers ≡ best

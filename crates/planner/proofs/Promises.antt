@@ -85,8 +85,8 @@ module _ {S : Type 0} (f : FareModel S) (laws : FareLaws f) (low : (s : S) → f
   at-the-end m s e =
       let os = best-offers f (q .destination) (s .store) in
       elim (cases-lt 32 (length os)) [
-        | inl h ↦ subst (λ o. Promised w (q .destination) (q .rides) (o .answer) (o .left .sheet) (o .left .legs)) (sym (cond-true (ltb most-rows (length os)) (refused (ManyOffers (length os)) (used s m)) (record { answer = Ok (counted f (q .destination) s); left = printed f (q .destination) s m }) (lt-ltb most-rows (length os) h))) tt
-        | inr h ↦ subst (λ o. Promised w (q .destination) (q .rides) (o .answer) (o .left .sheet) (o .left .legs)) (sym (cond-false (ltb most-rows (length os)) (refused (ManyOffers (length os)) (used s m)) (record { answer = Ok (counted f (q .destination) s); left = printed f (q .destination) s m }) (le-ltb most-rows (length os) h)))
+        | inl h ↦ subst (λ o. Promised w (q .destination) (q .rides) (o .answer) (o .left .sheet) (o .left .legs)) (sym (cond-true (ltb most-rows (length os)) (refused (ManyOffers (length os)) (used (length (s .store)) s m)) (record { answer = Ok (counted f (q .destination) s); left = printed f (q .destination) s m }) (lt-ltb most-rows (length os) h))) tt
+        | inr h ↦ subst (λ o. Promised w (q .destination) (q .rides) (o .answer) (o .left .sheet) (o .left .legs)) (sym (cond-false (ltb most-rows (length os)) (refused (ManyOffers (length os)) (used (length (s .store)) s m)) (record { answer = Ok (counted f (q .destination) s); left = printed f (q .destination) s m }) (le-ltb most-rows (length os) h)))
             (shown w (q .destination) (q .rides) (s .store) os (subst (λ ls. Answers w (q .destination) (q .rides) (best-offers f (q .destination) ls) (λ r. legs-of ls (r .label))) (sym e) best-answer)
             (subst (λ ls. length (best-offers f (q .destination) ls) ≤ 32 → Good (map row-of (best-offers f (q .destination) ls))) (sym e) (good-rows f q stops paths hops bytes legs rule lim) h)
             (counted f (q .destination) s) (printed f (q .destination) s m .sheet) (printed f (q .destination) s m .legs) refl (simp length-append (omega arith)) (simp length-append (omega arith))

@@ -36,9 +36,10 @@ use Rattle.planner.specs.declared.refusal.Refusal.the-variants.{StoreFull, Abo
 use Rattle.planner.specs.Handout.{row-of, legs-from}
 use Rattle.planner.specs.Limits.{fault-of}
 
--- the four lists
+-- the four lists, and how many labels the store counts as written
 pub record Memory (S : Type 0) : Type 0 where
   pub labels : List (Label S)
+  pub written : ℕ
   pub aboard : List (Passenger S)
   pub sheet : List ℕ
   pub legs : List Leg
@@ -51,14 +52,15 @@ pub record Outcome (S : Type 0) : Type 0 where
 abbrev pub refused : {S : Type 0} → Refusal → Memory S → Outcome S
 refused refusal m = record { answer = Err refusal; left = m }
 
--- the scan's two lists, once it has come to a stage
-abbrev pub used : {S : Type 0} → Stage S → Memory S → Memory S
-used s m = record { labels = overlay (s .store) (m .labels); aboard = s .places; sheet = m .sheet; legs = m .legs }
+-- the scan's two lists, once it has come to a stage, where so many labels count as written
+abbrev pub used : {S : Type 0} → ℕ → Stage S → Memory S → Memory S
+used written s m = record { labels = overlay (s .store) (m .labels); written = written; aboard = s .places; sheet = m .sheet; legs = m .legs }
 
 -- the sheet and the legs of the best offers, in front of what else the lists hold
 abbrev pub printed : {S : Type 0} → FareModel S → ℕ → Stage S → Memory S → Memory S
 printed f dest s m = record {
   labels = overlay (s .store) (m .labels);
+  written = length (s .store);
   aboard = s .places;
   sheet = laid (encode (map row-of (best-offers f dest (s .store)))) (m .sheet);
   legs = laid (legs-from (s .store) 0 (best-offers f dest (s .store))) (m .legs);
@@ -76,7 +78,7 @@ counted f dest s = record {
 abbrev pub answered : {S : Type 0} → FareModel S → ℕ → Memory S → Stage S → Outcome S
 answered f dest m s =
     cond (ltb most-rows (length (best-offers f dest (s .store))))
-    (refused (ManyOffers (length (best-offers f dest (s .store)))) (used s m))
+    (refused (ManyOffers (length (best-offers f dest (s .store)))) (used (length (s .store)) s m))
     (record { answer = Ok (counted f dest s); left = printed f dest s m })
 
 -- the refusal of a scan that a full list has ended, where so many labels are written
@@ -84,10 +86,10 @@ abbrev pub scan-refusal : Full → ℕ → Refusal
 scan-refusal Store labels = StoreFull labels
 scan-refusal (Aboard hop) labels = AboardFull hop
 
--- a scan that a full list has ended is refused
+-- a scan that a full list has ended is refused, and counts no label as written
 abbrev pub scanned : {S : Type 0} → FareModel S → ℕ → Memory S → Run (Stage S) → Outcome S
 scanned f dest m (on s) = answered f dest m s
-scanned f dest m (ended full s) = refused (scan-refusal full (length (s .store))) (used s m)
+scanned f dest m (ended full s) = refused (scan-refusal full (length (s .store))) (used 0 s m)
 
 -- a fault is refused, and leaves all lists as they were
 abbrev pub unless : {S : Type 0} → Option Refusal → Memory S → Outcome S → Outcome S
@@ -104,17 +106,20 @@ asked f hops stops paths q m =
 abbrev pub asked-of : {K W : Type 0} → TariffModel K → MeasureModel W → List Hop → List Stop → List Footpath → Question → Memory (FareState K W) → Outcome (FareState K W)
 asked-of tariff measure hops stops paths q m = asked (fare-over tariff measure stops) hops stops paths q m
 
--- A call answers a, and leaves these labels, passengers, bytes and legs: that is the outcome o.
-pub record Leaves {S : Type 0} (o : Outcome S) (a : Result Answer Refusal) (ls : List (Label S)) (ps : List (Passenger S)) (bytes : List ℕ) (walked : List Leg) : Type 0 where
+-- A call answers a, and leaves these labels, of which so many count as written, passengers, bytes and legs: that is the
+-- outcome o.
+pub record Leaves {S : Type 0} (o : Outcome S) (a : Result Answer Refusal) (ls : List (Label S)) (n : ℕ) (ps : List (Passenger S)) (bytes : List ℕ) (walked : List Leg) : Type 0 where
   pub answer : a ≡ o .answer
   pub labels : ls ≡ o .left .labels
+  pub written : n ≡ o .left .written
   pub aboard : ps ≡ o .left .aboard
   pub sheet : bytes ≡ o .left .sheet
   pub legs : walked ≡ o .left .legs
 
 -- the four lists hold what a memory says
-pub record Holds {S : Type 0} (m : Memory S) (ls : List (Label S)) (ps : List (Passenger S)) (bytes : List ℕ) (walked : List Leg) : Type 0 where
+pub record Holds {S : Type 0} (m : Memory S) (ls : List (Label S)) (n : ℕ) (ps : List (Passenger S)) (bytes : List ℕ) (walked : List Leg) : Type 0 where
   pub labels : ls ≡ m .labels
+  pub written : n ≡ m .written
   pub aboard : ps ≡ m .aboard
   pub sheet : bytes ≡ m .sheet
   pub legs : walked ≡ m .legs

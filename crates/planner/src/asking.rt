@@ -107,7 +107,7 @@ pub(crate) fn answer<T: Timetable, F: Fare>(
     out: &mut Printout,
 ) -> Result<Answer, Refusal>
     requires { ⌜ fault-of (now question) (now stops) (now paths) (T·Timetable .hops (now timetable)) (length (behind (now out .sheet))) (length (behind (now out .legs))) ≡ None ⌝ }
-    ensures { λ r. ⌜ Leaves (scanned (F·Fare .model (now (fare .entry))) (now (question .entry) .destination) (record { labels = behind (now (store .entry) .labels); aboard = now (aboard .entry); sheet = behind (now (out .entry) .sheet); legs = behind (now (out .entry) .legs) }) (scan-for (F·Fare .model (now (fare .entry))) (T·Timetable .hops (now (timetable .entry))) (now (paths .entry)) (now (question .entry)) (behind (now (store .entry) .labels)) (now (aboard .entry)))) r (behind (now (store .exit) .labels)) (now (aboard .exit)) (behind (now (out .exit) .sheet)) (behind (now (out .exit) .legs)) ⌝ }
+    ensures { λ r. ⌜ Leaves (scanned (F·Fare .model (now (fare .entry))) (now (question .entry) .destination) (record { labels = behind (now (store .entry) .labels); written = now (store .entry) .used; aboard = now (aboard .entry); sheet = behind (now (out .entry) .sheet); legs = behind (now (out .entry) .legs) }) (scan-for (F·Fare .model (now (fare .entry))) (T·Timetable .hops (now (timetable .entry))) (now (paths .entry)) (now (question .entry)) (behind (now (store .entry) .labels)) (now (aboard .entry)))) r (behind (now (store .exit) .labels)) (now (store .exit) .used) (now (aboard .exit)) (behind (now (out .exit) .sheet)) (behind (now (out .exit) .legs)) ⌝ }
 {
     if let Err(full) = store.scan(timetable, fare, paths, aboard, question) {
         return Err(scan_refusal(full, store.room()));

@@ -50,6 +50,25 @@ fn two_rows_both_ways() -> Result<(), Fail> {
     check(rows[0..2] == TWO_ROWS[0..2])
 }
 
+// Whether the bytes are a sheet of the two rows.
+fn reads_as_the_two(sheet: &[u8]) -> bool {
+    let mut rows = NO_ROWS;
+    read(sheet, &mut rows) == Ok(2) && rows[0..2] == TWO_ROWS[0..2]
+}
+
+// Each byte in turn becomes every other one: what is read then, if anything is, is other rows.
+#[test]
+fn no_damaged_byte_goes_unseen() -> Result<(), Fail> {
+    for place in 0..THEIR_SHEET.len() {
+        for byte in 0..=u8::MAX {
+            let mut sheet = THEIR_SHEET;
+            sheet[place] = byte;
+            check_eq(reads_as_the_two(&sheet), byte == THEIR_SHEET[place])?;
+        }
+    }
+    Ok(())
+}
+
 #[test]
 fn no_sheets() -> Result<(), Fail> {
     let mut rows = NO_ROWS;

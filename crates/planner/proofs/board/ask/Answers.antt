@@ -30,12 +30,12 @@ returns-in-Some g c =
     let hops = g .T·Timetable .hops (c .args .board .now .timetable .now) in
     let q = c .args .question .now in
     let f = fare-over t measure stops in
-    let m : Memory (FareState (g .F·Ticket .Denot) (g .M·Weight .Denot)) = record { labels = c .args .store .now .labels .now; aboard = c .args .aboard .now; sheet = c .args .out .now .sheet .now; legs = c .args .out .now .legs .now } in
+    let m : Memory (FareState (g .F·Ticket .Denot) (g .M·Weight .Denot)) = record { labels = c .args .store .now .labels .now; written = c .args .store .now .used; aboard = c .args .aboard .now; sheet = c .args .out .now .sheet .now; legs = c .args .out .now .legs .now } in
     let is : fault-of q stops paths hops (length (m .sheet)) (length (m .legs)) ≡ Some (c .in-Some .refusal) = sym (c .in-Some .ensures tt) in
     let o = scanned f (q .destination) m (scan-for f hops paths q (m .labels) (m .aboard)) in
     let e : refused (c .in-Some .refusal) m ≡ asked f hops stops paths q m = sym (ap (λ x. unless x m o) is) in
     record {
-      outcome = subst (λ x. Leaves x (Err (c .in-Some .refusal)) (m .labels) (m .aboard) (m .sheet) (m .legs)) e (record { answer = refl; labels = refl; aboard = refl; sheet = refl; legs = refl });
+      outcome = subst (λ x. Leaves x (Err (c .in-Some .refusal)) (m .labels) (m .written) (m .aboard) (m .sheet) (m .legs)) e (record { answer = refl; labels = refl; written = refl; aboard = refl; sheet = refl; legs = refl });
       numbers = ap (λ x. numbered (x .answer)) e;
       accepted = subst (λ x. Decides (isOk (x .answer)) (Acceptable f hops stops paths q m)) (sym e) (accepted-where f hops stops paths q m);
       promise = tt;
@@ -50,7 +50,7 @@ returns g c =
     let hops = g .T·Timetable .hops (c .args .board .now .timetable .now) in
     let q = c .args .question .now in
     let f = fare-over t measure stops in
-    let m : Memory (FareState (g .F·Ticket .Denot) (g .M·Weight .Denot)) = record { labels = c .args .store .now .labels .now; aboard = c .args .aboard .now; sheet = c .args .out .now .sheet .now; legs = c .args .out .now .legs .now } in
+    let m : Memory (FareState (g .F·Ticket .Denot) (g .M·Weight .Denot)) = record { labels = c .args .store .now .labels .now; written = c .args .store .now .used; aboard = c .args .aboard .now; sheet = c .args .out .now .sheet .now; legs = c .args .out .now .legs .now } in
     let none : fault-of q stops paths hops (length (m .sheet)) (length (m .legs)) ≡ None = sym (c .in-rest .ensures tt) in
     let o = scanned f (q .destination) m (scan-for f hops paths q (m .labels) (m .aboard)) in
     let e : o ≡ asked f hops stops paths q m = sym (ap (λ x. unless x m o) none) in
@@ -60,7 +60,7 @@ returns g c =
     let p = promise-kept f laws low q stops paths hops (length (m .sheet)) (length (m .legs)) (g .T·Timetable .rule (c .args .board .now .timetable .now)) lim m in
     let w = setup-of f hops paths q in
     record {
-      outcome = subst (λ x. Leaves x (c .answer .result) (c .answer .last .store .labels .now) (c .answer .last .aboard) (c .answer .last .out .sheet .now) (c .answer .last .out .legs .now)) e (c .answer .ensures);
+      outcome = subst (λ x. Leaves x (c .answer .result) (c .answer .last .store .labels .now) (c .answer .last .store .used) (c .answer .last .aboard) (c .answer .last .out .sheet .now) (c .answer .last .out .legs .now)) e (c .answer .ensures);
       numbers = ap numbered (c .answer .ensures .answer ∙ ap (λ x. x .answer) e);
       accepted = subst (λ r. Decides (isOk r) (Acceptable f hops stops paths q m)) (sym (c .answer .ensures .answer ∙ ap (λ x. x .answer) e)) (accepted-where f hops stops paths q m);
       promise =
