@@ -1,3 +1,4 @@
+#![tactic(auto)]
 // Worked questions, run as tests: four stops and two crossings, each by ferry or the cheaper way
 // (`case`); as many offers as a sheet can hold, and one more (`most_offers`); two boards that have
 // nothing in common but their offers (`two_makers`). The crate has nothing of its own.

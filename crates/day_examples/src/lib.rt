@@ -1,3 +1,4 @@
+#![tactic(auto)]
 // Worked service days, run as tests: tables of 32 trips, full and over (`tables`); what cancellations
 // and delays make of hops (`hops`); the ferry's day, asked after a log (`ferry`); a log entry by entry
 // and in one run (`log`); questions after a log over other timetables, tariffs and measures (`piles`);

@@ -1,6 +1,6 @@
 -- A question leaves each of its four lists as long as it was.
 use Rattle.std.proofs.Common.{◌≡◌, ℕ, zero, suc, ◌≤◌, Bool, true, cond, eqb, ltb, List, [], ◌∷◌, ◌++◌, map, length, get_or, Some, None, Ok, Option, sym, refl, ◌∙◌, subst, arith, length-append, length-drop}
-use lib.ListN.{length_map}
+use lib.ListN.{length-map}
 use Rattle.std.proofs.lemmas.Bool.{cond_both, ltb-true, ltb-false}
 use Rattle.timetable.specs.declared.hops.Hop.{Hop}
 use Rattle.timetable.specs.Rule.{keeps}
@@ -79,7 +79,7 @@ module _ {S : Type 0} (f : FareModel S) (room : Room) where
   unfolding pass_hop
   hop_seated k i h s p = cond_both h.runs (riding f room k i h s) (on (emptied h.trip s)) (λ r. Seated (result_of r))
       (λ _. then_keeps Seated (boarding f room k i h (kept h s)) (λ t. alighting f room k i h (with_aboard t (map (rides_on f h) t.aboard))) (boarding_seated k i h (kept h s) (cond_both (eqb s.trip h.trip) s (emptied h.trip s) Seated (λ _. p) (λ _. none_seated)))
-      (λ t r. let ps = map (rides_on f h) t.aboard in within_keeps Seated (with_store (with_aboard t ps)) (run_each (alight f room.labels k i h) 0 ps t.store) (with_aboard_seated t ps r (simp length_map r.0))))
+      (λ t r. let ps = map (rides_on f h) t.aboard in within_keeps Seated (with_store (with_aboard t ps)) (run_each (alight f room.labels k i h) 0 ps t.store) (with_aboard_seated t ps r (simp length-map r.0))))
       (λ _. none_seated)
     where
       none_seated : Seated (emptied h.trip s)
@@ -122,7 +122,7 @@ module _ {S : Type 0} (f : FareModel S) (hops : List Hop) (stops : List Stop) (p
       (λ t. let few : length os ≤ 32 = ltb-false most_rows (length os) t in record {
         labels = same.labels;
         aboard = same.aboard;
-        sheet = overlay_length (encode (map row_of os)) m.sheet (omega (arith, encode_le (map row_of os) (simp length_map few)));
+        sheet = overlay_length (encode (map row_of os)) m.sheet (omega (arith, encode_le (map row_of os) (simp length-map few)));
         legs = overlay_length (legs_from s.store 0 os) m.legs
             (subst (λ ls. length (best_offers f q.destination ls) ≤ 32 → length (legs_from ls 0 (best_offers f q.destination ls)) ≤ length m.legs) (sym e) (legs_fit f q stops paths hops (length m.sheet) (length m.legs) rule lim) few);
       })

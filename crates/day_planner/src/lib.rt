@@ -1,3 +1,4 @@
+#![tactic(auto)]
 // A board's planner, the log of its day, and two boards compared.
 //
 // A `Planner` has a timetable as it is on this day, a tariff and a measure. It cancels, reinstates

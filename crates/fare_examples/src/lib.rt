@@ -1,3 +1,4 @@
+#![tactic(auto)]
 // Tariffs and measures put together, and worked examples of fares.
 //
 // `every_kind_keeps_covering` takes a surcharge over a table and one over a ladder, measured in all four ways at once:

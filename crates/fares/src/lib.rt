@@ -1,3 +1,4 @@
+#![tactic(auto)]
 // What a journey's fare is made of.
 //
 // A measure (`Measure`) adds up what is ridden, hop by hop, and shows it on four gauges (`Gauges`). A tariff (`Tariff`)

@@ -1,3 +1,4 @@
+#![tactic(auto)]
 // Four stops and two crossings, each by ferry or the cheaper way: asks for the best connections, and
 // prints their sheet and then the legs.
 mod ferry_case;

@@ -1,7 +1,7 @@
 -- Which tickets of the ferry's table cover which: all three are free, and each covers itself and those above it.
 use Rattle.std.proofs.Common.{◌≡◌, ℕ, zero, suc, Bool, true, false, not, ◌&&◌, ◌||◌, eqb, leb, refl, ap, ◌∙◌, arith}
 use mathlib.Core.Path.{fun_ext}
-use lib.Dec.{eqb_zero_suc, eqb_suc_suc}
+use lib.Dec.{eqb-zero-suc, eqb-suc-suc}
 use Rattle.fares.specs.declared.tickets.Marked.{Marked}
 use Rattle.fares.specs.Surcharges.{surcharge_model}
 use Rattle.fares.specs.Tariffs.{TariffModel}
@@ -63,13 +63,13 @@ unfolding reaches_ticket
 reached_2 l = reach_2 32 l
 
 not_0 : (n : ℕ) → eqb 0 (suc (suc (suc n))) ≡ false
-not_0 n = eqb_zero_suc (suc (suc n))
+not_0 n = eqb-zero-suc (suc (suc n))
 
 not_1 : (n : ℕ) → eqb 1 (suc (suc (suc n))) ≡ false
-not_1 n = eqb_suc_suc 0 (suc (suc n)) ∙ eqb_zero_suc (suc n)
+not_1 n = eqb-suc-suc 0 (suc (suc n)) ∙ eqb-zero-suc (suc n)
 
 not_2 : (n : ℕ) → eqb 2 (suc (suc (suc n))) ≡ false
-not_2 n = eqb_suc_suc 1 (suc (suc n)) ∙ eqb_suc_suc 0 (suc n) ∙ eqb_zero_suc n
+not_2 n = eqb-suc-suc 1 (suc (suc n)) ∙ eqb-suc-suc 0 (suc n) ∙ eqb-zero-suc n
 
 out_0 : (n : ℕ) → reaches_ticket ferry_rules 0 (suc (suc (suc n))) ≡ false
 out_0 n = reached_0 (suc (suc (suc n))) ∙ rw (not_0 n, not_1 n, not_2 n) refl

@@ -1,3 +1,4 @@
+#![tactic(auto)]
 // Worked cases of one small network, computed.
 //
 // Two ferries cross from harbour to harbour, and beside each runs a cheaper trip, which takes longer or leads inland.

@@ -1,6 +1,6 @@
 -- The legs of the labels of a store that grows. Assumes nothing.
 use Rattle.std.proofs.Common.{◌≡◌, ℕ, zero, suc, ◌+◌, ◌<◌, ◌≤◌, Bool, true, false, List, [], ◌∷◌, ◌++◌, length, get_or, sym, refl, ap, ◌∙◌, subst, append_assoc, append-nil, arith, length-append}
-use lib.ListN.{get_or_append}
+use lib.ListN.{get_or-append}
 use Rattle.journeys.specs.declared.label.Label.{Label}
 use Rattle.journeys.specs.Journey.{Leg}
 use Rattle.journeys.specs.declared.label.Way.{Way}
@@ -25,7 +25,7 @@ module _ {S : Type 0} where
   -- the legs so far stay
   traces_stay : (acc : List (List Leg)) (xs : List (Label S)) (j : ℕ) → j < length acc → get_or (traces_from acc xs) j [] ≡ get_or acc j []
   traces_stay acc [] j h = refl
-  traces_stay acc (x ∷ xs) j h = traces_stay (acc ++ (legs_by x.way acc ∷ [])) xs j (simp length-append (omega arith)) ∙ get_or_append acc (legs_by x.way acc ∷ []) [] j h
+  traces_stay acc (x ∷ xs) j h = traces_stay (acc ++ (legs_by x.way acc ∷ [])) xs j (simp length-append (omega arith)) ∙ get_or-append acc (legs_by x.way acc ∷ []) [] j h
 
   pub legs_stay : (st more : List (Label S)) (j : ℕ) → j < length st → legs_of (st ++ more) j ≡ legs_of st j
   legs_stay st more j h = ap (λ (t : List (List Leg)). get_or t j []) (traces_append [] st more) ∙ traces_stay (traces st) more j (omega (arith, traces_length [] st))

@@ -1,6 +1,6 @@
 -- The scan with room beside the endless one: it holds the same as long as there is room, and where it is ended the endless one needs more.
 use Rattle.std.proofs.Common.{◌≡◌, ℕ, zero, suc, ◌+◌, ◌<◌, ◌≤◌, max, Bool, true, false, cond, eqb, ltb, ◌⊎◌, List, [], ◌∷◌, ◌++◌, map, length, get_or, sym, refl, ap, ◌∙◌, subst, inl, inr, arith, length-append}
-use lib.ListN.{length_map}
+use lib.ListN.{length-map}
 use Rattle.std.proofs.lemmas.Bool.{cond-true, cond-false, cases_Bool, eqb-true, ltb-true, ltb-false}
 use Rattle.timetable.specs.declared.hops.Hop.{Hop}
 use Rattle.timetable.specs.Table.{count_of}
@@ -147,7 +147,7 @@ module _ {S : Type 0} (w : Setup S) (room : Room) where
           trip = refl;
           aboard = ap (map (rides_on w.fare h)) e;
           store = t.0 ∙ ap (λ l. foldi (alight∞ w k i h) 0 (map (rides_on w.fare h) l) s.store) e;
-          aboard_fits = simp length_map n;
+          aboard_fits = simp length-map n;
           store_fits = t.1;
         },
         omega (arith, ap length e),

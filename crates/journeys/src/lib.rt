@@ -1,3 +1,4 @@
+#![tactic(auto)]
 // Journeys: what a question is about, and what the scan for it writes.
 //
 // `Network` has stops and footpaths, `Question` says from where to where. A journey is a list of legs

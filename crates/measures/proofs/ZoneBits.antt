@@ -1,8 +1,8 @@
 -- Members of a set of zones are the bits of its number.
 use Rattle.std.proofs.Common.{◌≡◌, ℕ, zero, suc, ◌+◌, ◌-◌, ◌*◌, ◌/◌, ◌%◌, ◌^◌, ◌<◌, ◌≤◌, min, max, Bool, true, cond, ◌||◌, eqb, ltb, ◌⊎◌, Decides, sym, refl, ap, ◌∙◌, ap₂, inl, inr, ⊎_elim, mod-eq_of_lt, pow-suc, arith}
-use native.Mathlib.Nat.{div-eq_of_lt, zero_div}
+use native.Mathlib.Nat.{div-eq_of_lt, zero-div}
 use lib.Bits.{bit_and, bit_or, and_step, or_step, and_shr, or_shr, and_zero_l}
-use lib.Count.{ones, ones_step, ones_le}
+use lib.Count.{ones, ones_step, ones-le}
 use Rattle.std.proofs.lemmas.Nat.{pow-add, pow_below, shl-shr, shr-shr}
 use Rattle.std.proofs.lemmas.Bool.{eqb-true, eq-eqb, ne_eqb, lt-ltb, le-ltb, cases_lt, cases_eq, cond-true, cond-false}
 use Rattle.measures.specs.Bounds.{zone_count}
@@ -84,7 +84,7 @@ digit_counts (suc (suc n)) h = absurd (omega arith)
 -- the bits that stand are as many as the places at which one stands: the lowest first
 ones_counted : (k n : ℕ) → n < 2 ^ k → ones n ≡ count_below (λ z. eqb (n / 2 ^ z % 2) 1) k
 unfolding count_below
-ones_counted zero n h = omega (arith, ones_le 0 n h)
+ones_counted zero n h = omega (arith, ones-le 0 n h)
 ones_counted (suc k) n h =
     let half : n / 2 < 2 ^ k = omega (arith, pow-suc 2 k) in
     let low : n / 2 ^ 0 % 2 ≡ n % 2 = omega arith in
@@ -122,7 +122,7 @@ power_digit y z = pick (cases_eq y z) (cases_lt y z)
     pick (inr ne) (inr h) = other ne (higher (⊎_elim {C = z < y} (λ i. i) (λ i. absurd (ne (omega arith))) (cases_lt z y)))
 
 zero_digit : (z : ℕ) → 0 / 2 ^ z % 2 ≡ 0
-zero_digit z = ap (λ (n : ℕ). n % 2) (zero_div (2 ^ z))
+zero_digit z = ap (λ (n : ℕ). n % 2) (zero-div (2 ^ z))
 
 one_has : (y z : ℕ) → z < zone_count → has_zone (set_of_zone (bit_of_zone y)) z ≡ eqb y z
 one_has y z h = ⊎_elim {C = has_zone (set_of_zone (bit_of_zone y)) z ≡ eqb y z} inside outside (cases_lt y zone_count)
@@ -145,7 +145,7 @@ zones_are_sets = record {
   union = union_has;
   inclusion = decides_included;
   members = λ a.
-      let few : ones a.members ≤ zone_count = ones_le zone_count a.members a.fits in
+      let few : ones a.members ≤ zone_count = ones-le zone_count a.members a.fits in
       let whole : (zones_model.gauges a).zones ≡ ones a.members = omega arith in
       whole ∙ ones_counted zone_count a.members a.fits;
 }

@@ -1,3 +1,4 @@
+#![tactic(auto)]
 // Five measures of a journey.
 //
 // `Metres` and `Stops` add up what is ridden, `Zones` collects the zones touched, `Level` keeps the highest level, and

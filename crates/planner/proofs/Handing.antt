@@ -1,6 +1,6 @@
 -- Rows and legs written one offer at a time.
 use Rattle.std.proofs.Common.{◌≡◌, ℕ, zero, suc, ◌+◌, ◌-◌, ◌<◌, ◌≤◌, List, [], ◌∷◌, ◌++◌, map, length, get_or, take, drop, set, Ok, Result, sym, refl, ap, ◌∙◌, subst, append_assoc, append-nil, add-one, arith, length-append, take-append-drop, length-take, take-suc-set}
-use lib.ListN.{length_map}
+use lib.ListN.{length-map}
 use Rattle.std.proofs.lemmas.List.{take_more, take_all, map-append}
 use Rattle.journeys.specs.declared.best_offer.BestOffer.{BestOffer}
 use Rattle.journeys.specs.declared.label.Label.{Label}
@@ -56,19 +56,19 @@ module _ {S : Type 0} (ls : List (Label S)) where
     leg_room room r =
         let a = ap length (legs_more os i h) in
         let b = length-append (legs_from ls 0 (take i os)) (map (spelled i) (legs_of ls (get_or os i no_offer).label)) in
-        let m = length_map (legs_of ls (get_or os i no_offer).label) (spelled i) in
+        let m = length-map (legs_of ls (get_or os i no_offer).label) (spelled i) in
         omega (arith, a, b, m, front_fits os (i + 1))
 
     pub row_end : (next : ℕ) → next ≡ end + length (legs_of ls (get_or os i no_offer).label) → next ≡ length (legs_from ls 0 (take (i + 1) os))
     row_end next n =
         let a = ap length (legs_more os i h) in
         let b = length-append (legs_from ls 0 (take i os)) (map (spelled i) (legs_of ls (get_or os i no_offer).label)) in
-        let m = length_map (legs_of ls (get_or os i no_offer).label) (spelled i) in
+        let m = length-map (legs_of ls (get_or os i no_offer).label) (spelled i) in
         omega (arith, a, b, m)
 
     pub row_legs : (old mid new : List SheetLeg) → length (legs_from ls 0 os) ≤ length old → mid ≡ pasted 0 (legs_from ls 0 (take i os)) old → new ≡ pasted end (map (spelled i) (legs_of ls (get_or os i no_offer).label)) mid → new ≡ pasted 0 (legs_from ls 0 (take (i + 1) os)) old
     row_legs old mid new room was now =
-        let m = length_map (legs_of ls (get_or os i no_offer).label) (spelled i) in
+        let m = length-map (legs_of ls (get_or os i no_offer).label) (spelled i) in
         pasted_more 0 end (legs_from ls 0 (take i os)) (map (spelled i) (legs_of ls (get_or os i no_offer).label)) old mid new (omega arith) was now (omega (arith, m, leg_room (length old) room))
         ∙ ap (λ l. pasted 0 l old) (sym (legs_more os i h))
 

@@ -1,6 +1,6 @@
 -- The legs to a label, from those to the label that it comes from; and a list with something written at a place.
 use Rattle.std.proofs.Common.{◌≡◌, ℕ, zero, suc, ◌+◌, ◌<◌, ◌≤◌, List, [], ◌∷◌, ◌++◌, map, length, get_or, take, drop, set, sym, refl, ap, ◌∙◌, subst, append_assoc, add-one, arith, length-append, length-drop, take-append-drop, length-take}
-use lib.ListN.{length_map}
+use lib.ListN.{length-map}
 use Rattle.std.proofs.lemmas.List.{take_more, map-append}
 use Rattle.journeys.specs.declared.label.Label.{Label}
 use Rattle.journeys.specs.declared.label.Way.{Way}
@@ -62,7 +62,7 @@ module _ (row at end : ℕ) (before all : List Leg) (x : Leg) (old mid : List Sh
 
   pub leg_written : end < length mid → set mid end (spelled row x) ≡ pasted at (map (spelled row) all) old
   leg_written h =
-      pasted_more at end (map (spelled row) before) (spelled row x ∷ []) old mid (set mid end (spelled row x)) (e ∙ ap (λ (n : ℕ). at + n) (sym (length_map before (spelled row)))) was (pasted_one end (spelled row x) mid h) (omega (arith, longer))
+      pasted_more at end (map (spelled row) before) (spelled row x ∷ []) old mid (set mid end (spelled row x)) (e ∙ ap (λ (n : ℕ). at + n) (sym (length-map before (spelled row)))) was (pasted_one end (spelled row x) mid h) (omega (arith, longer))
       ∙ ap (λ l. pasted at l old) (sym (ap (map (spelled row)) is ∙ map-append (spelled row) before (x ∷ [])))
 
 -- the label that a way comes from, and the legs to it

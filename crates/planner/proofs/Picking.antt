@@ -1,6 +1,6 @@
 -- The best offers, picked one by one: prices fall, so that no number of them is too small to begin with.
 use Rattle.std.proofs.Common.{◌≡◌, ℕ, zero, suc, ◌+◌, ◌<◌, ◌≤◌, Bool, true, false, cond, ltb, List, [], ◌∷◌, ◌++◌, length, get_or, take, drop, set, Some, None, Option, sym, refl, ap, ◌∙◌, subst, inl, inr, add-one, arith, length-append, length-drop, length-take}
-use lib.Seq.{take_append_le}
+use lib.Seq.{take-append-le}
 use Rattle.std.proofs.lemmas.List.{take_all}
 use Rattle.std.proofs.lemmas.Bool.{cond-true, cond-false, cases_lt, lt-ltb, le-ltb}
 use Rattle.journeys.specs.declared.best_offer.BestOffer.{BestOffer}
@@ -100,7 +100,7 @@ module _ {A : Type 0} where
         let few : length (take (length old) xs) ≡ length old = omega (arith, length-take (length old) xs) in
         let n : length (overlay (take (length old) xs) old) ≡ length old = overlay_length (take (length old) xs) old (omega arith) in
         cond-false (ltb (length xs) (length (overlay (take (length old) xs) old))) (set (overlay (take (length old) xs) old) (length xs) x) (overlay (take (length old) xs) old) (le-ltb _ _ (omega arith))
-        ∙ ap (λ l. overlay l old) (sym (take_append_le (length old) xs (x ∷ []) h)))
+        ∙ ap (λ l. overlay l old) (sym (take-append-le (length old) xs (x ∷ []) h)))
   ]
 
 -- The search stands behind the first `count` of the whole list, and what is below the bound is left.

@@ -1,6 +1,6 @@
 -- The sheet and the legs of an answered question show every connection worth choosing, and nothing else.
 use Rattle.std.proofs.Common.{◌≡◌, ℕ, zero, suc, ◌<◌, ◌≤◌, Bool, true, false, cond, ltb, List, [], ◌∷◌, ◌++◌, map, length, take, Ok, Err, sym, refl, ap, ◌∙◌, subst, inl, inr, arith, lit<, length-append}
-use lib.ListN.{length_map}
+use lib.ListN.{length-map}
 use Rattle.std.proofs.lemmas.Bool.{cond-true, cond-false, cases_lt, lt-ltb, le-ltb}
 use Rattle.timetable.specs.declared.hops.Hop.{Hop}
 use Rattle.timetable.specs.Rule.{keeps}
@@ -52,7 +52,7 @@ shown : {S : Type 0} (w : Setup S) (dest limit : ℕ) (ls : List (Label S)) (os 
     → Shows w dest limit answer bytes walked
 shown w dest limit ls os a good answer bytes walked n x y b l = record {
   connections = map (connection ls) os;
-  rows = length_map os (connection ls) ∙ n;
+  rows = length-map os (connection ls) ∙ n;
   bytes_fit = x;
   legs_fit = y;
   sheet = b ∙ ap encode (sym (connected_rows ls os));

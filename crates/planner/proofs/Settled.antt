@@ -1,6 +1,6 @@
 -- A question without a fault: the limits that it keeps, and so what its scan finds fits the sheet and the legs.
 use Rattle.std.proofs.Common.{◌≡◌, ℕ, zero, suc, ◌+◌, ◌*◌, ◌<◌, ◌≤◌, Bool, true, false, cond, not, ◌&&◌, ◌||◌, eqb, ltb, leb, List, [], ◌∷◌, ◌++◌, map, length, get_or, Some, None, Option, sym, refl, ap, ◌∙◌, subst, subst₂, inl, inr, arith, length-append}
-use lib.ListN.{length_map, get_or_eq_default}
+use lib.ListN.{length-map, get_or-eq_default}
 use Rattle.std.specs.List.{slice_get, AllByRecursion as All}
 use Rattle.std.proofs.lemmas.Option.{slice_get-get_or}
 use Rattle.std.proofs.lemmas.Bool.{and_parts, or_parts, ltb-false, leb-false, leb-true, cases_lt, true≢false}
@@ -73,7 +73,7 @@ module _ {S : Type 0} (f : FareModel S) (q : Asked) (stops : List Stop) (paths :
   arrives : (i : ℕ) → (hop_in w i).runs ≡ true → (hop_in w i).arrival ≤ 172800
   arrives i r = elim (cases_lt i (length hops)) [
     | inl h ↦ arrives_by hops rule i (get_or hops i no_hop) (slice_get-get_or hops i no_hop h) r
-    | inr h ↦ absurd (true≢false (sym r ∙ ap (λ (x : Hop). x.runs) (get_or_eq_default hops no_hop {n = i} h)))
+    | inr h ↦ absurd (true≢false (sym r ∙ ap (λ (x : Hop). x.runs) (get_or-eq_default hops no_hop {n = i} h)))
   ]
 
   pub timely : Timely w
@@ -114,7 +114,7 @@ module _ {S : Type 0} (f : FareModel S) (q : Asked) (stops : List Stop) (paths :
   legs_count [] row e = omega arith
   legs_count (o ∷ os) row e =
       let a = length-append (map (spelled row) (legs_of st o.label)) (legs_from st (suc row) os) in
-      let m = length_map (legs_of st o.label) (spelled row) in
+      let m = length-map (legs_of st o.label) (spelled row) in
       omega (arith, a, m, e.0, legs_count os (suc row) e.1)
 
   pub legs_fit : length offers ≤ 32 → length (legs_from st 0 offers) ≤ legs
@@ -145,7 +145,7 @@ module _ {S : Type 0} (f : FareModel S) (q : Asked) (stops : List Stop) (paths :
   pub good_rows : length offers ≤ 32 → Good (map row_of offers)
   unfolding best_offers
   good_rows h = record {
-    few = simp length_map h;
+    few = simp length-map h;
     ranges = within_range offers handed (prices_below st price_bound price_bound);
     order = rows_order offers (rows_ordered f q.destination st price_bound price_bound);
   }

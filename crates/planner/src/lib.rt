@@ -1,3 +1,4 @@
+#![tactic(auto)]
 // Questions answered.
 //
 // `ask` puts a `Question` to a `Board`, which has a timetable, a tariff and a measure. It tests the

@@ -1,3 +1,4 @@
+#![tactic(auto)]
 // Worked examples of timetables and sheets, run as tests. The crate has nothing of its own.
 
 #[cfg(test)]

@@ -1,3 +1,4 @@
+#![tactic(auto)]
 // A tariff that is written down as a table: tickets with their prices, and rules that lead from ticket to ticket.
 //
 // `RuleTable::open` takes at most 32 prices, at most 128 rules and a start ticket for each of four stop classes, and

@@ -1,6 +1,6 @@
 -- What the two lists hold after a hop. Assumes nothing.
 use Rattle.std.proofs.Common.{◌≡◌, ℕ, zero, suc, ◌+◌, ◌<◌, ◌≤◌, Bool, true, false, cond, eqb, ltb, List, [], ◌∷◌, ◌++◌, map, length, get_or, take, Some, None, Ok, Err, Option, Result, sym, refl, ap, ◌∙◌, subst, inl, inr, add-one, arith, length-append, length-take}
-use lib.ListN.{length_map}
+use lib.ListN.{length-map}
 use Rattle.journeys.specs.Scan.{no_hop}
 use Rattle.std.proofs.lemmas.Bool.{cond-true, cond-false, cond_both, cases_Bool, cases_eq, eqb-true}
 use Rattle.journeys.specs.declared.label.Label.{Label}
@@ -95,7 +95,7 @@ module _ {S : Type 0} (f : FareModel S) (old : List (Label S)) (ab : List (Passe
   rode_on one two count x p n q =
       let e : take count one ≡ x = ap (take count) p ∙ take_overlay x ab count n in
       let d : two ≡ overlay (map (rides_on f h) x) (overlay x ab) = q ∙ (λ v. overlay (map (rides_on f h) (e v)) (p v)) in
-      (ap (take count) d ∙ take_overlay (map (rides_on f h) x) (overlay x ab) count (n ∙ sym (length_map x (rides_on f h))), d)
+      (ap (take count) d ∙ take_overlay (map (rides_on f h) x) (overlay x ab) count (n ∙ sym (length-map x (rides_on f h))), d)
 
   finish : (two : List (Passenger S)) (new : List (Label S)) (o : Option ℕ) (q : Result Progress Full) (count : ℕ) (x : List (Passenger S)) → count ≡ length x → (take count two ≡ map (rides_on f h) x) × (two ≡ overlay (map (rides_on f h) x) (overlay x ab)) → Alighting two new o count
       → ((r : Run (List (Label S))) → Written old new o r → IfFull (λ s. s ≡ Store) r → q ≡ answer_of (within (with_store (with_aboard (with_aboard start x) (map (rides_on f h) x))) r))
@@ -128,7 +128,7 @@ module _ {S : Type 0} (f : FareModel S) (old : List (Label S)) (ab : List (Passe
   hop_done one two new count n e t q u = subst (Scanned old new two (Ok (record { used = n; count = count; trip = h.trip }))) (sym (hop_runs e)) (go boardings t)
     where
       ask : (x : List (Passenger S)) → count ≡ length x → (r : Run (List (Label S))) → Written old new (Some n) r → IfFull (λ s. s ≡ Store) r → Ok (record { used = n; count = count; trip = h.trip }) ≡ answer_of (within (with_store (with_aboard (with_aboard start x) (map (rides_on f h) x))) r)
-      ask x m (on st) v p = λ z. Ok (record { used = some_same n (length st) v.used z; count = (m ∙ sym (length_map x (rides_on f h))) z; trip = h.trip })
+      ask x m (on st) v p = λ z. Ok (record { used = some_same n (length st) v.used z; count = (m ∙ sym (length-map x (rides_on f h))) z; trip = h.trip })
       ask x m (ended s st) v p = absurd (let z : ◌≡◌ {A = ℕ} 0 1 = cc v.used in omega arith)
 
       go : (r : Run (List (Passenger S))) → Written ab one (Some count) r → Scanned old new two (Ok (record { used = n; count = count; trip = h.trip })) (and_then (within (with_aboard start) r) after_board)

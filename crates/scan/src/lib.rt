@@ -1,3 +1,4 @@
+#![tactic(auto)]
 // The scan: one pass over all hops for each ride that a journey may have.
 //
 // `LabelStore` is the label store: places that the caller lends, and how many of them are written.

@@ -1,6 +1,6 @@
 -- What a layer that changes each hop answers.
 use Rattle.std.proofs.Common.{◌≡◌, ℕ, zero, suc, ◌+◌, ◌<◌, ◌≤◌, Bool, true, false, cond, eqb, ltb, List, [], ◌∷◌, map, length, get_or, take, Some, None, Option, sym, refl, ap, ◌∙◌, arith}
-use lib.ListN.{length_map}
+use lib.ListN.{length-map}
 use Rattle.std.specs.List.{slice_get}
 use Rattle.std.proofs.lemmas.List.{get_or-take}
 use Rattle.timetable.specs.declared.hops.Hop.{Hop}
@@ -14,7 +14,7 @@ use Rattle.service_day.specs.LayerRule.{changed}
 
 module _ (f : Hop → Hop) where
   pub same_count : (hs : List Hop) (n : ℕ) → n ≡ count_of hs → n ≡ count_of (map f hs)
-  same_count hs n e = e ∙ ap held (sym (length_map hs f))
+  same_count hs n e = e ∙ ap held (sym (length-map hs f))
 
   last_changed : (before : Option Hop) (hs : List Hop) → last_after (changed f before) (map f hs) ≡ changed f (last_after before hs)
   last_changed before [] = refl

@@ -1,6 +1,6 @@
 -- Entries by trip: their places, and what a write or a removal leaves.
 use Rattle.std.proofs.Common.{◌≡◌, ℕ, zero, suc, ◌+◌, ◌-◌, ◌<◌, ◌≤◌, Bool, true, false, cond, not, ◌&&◌, ◌||◌, eqb, ltb, leb, List, [], ◌∷◌, ◌++◌, length, get_or, take, drop, set, sym, refl, ap, ◌∙◌, subst, ⊎_elim, arith}
-use lib.Seq.{take_set_lt}
+use lib.Seq.{take-set-lt}
 use Rattle.std.proofs.lemmas.List.Filters.{FiltersInPlace, FiltersInPlace-more_no, FiltersInPlace-more_set}
 use Rattle.std.proofs.lemmas.List.{at_drop_more, at_drop_all, length-take-le, take_more_set}
 use Rattle.std.proofs.lemmas.Bool.{eq-eqb, ne_eqb, cases_lt, and_left, and_right, and_from, lt-leb, le-leb, lt-ltb, le-ltb}
@@ -121,7 +121,7 @@ module _ {E : Type 0} (key : E → ℕ) (e : E) where
     put_in_place h =
         let long = length-take-le used xs fits in
         let there : place_of key (key e) (take used xs) < length (take used xs) = omega arith in
-        take_set_lt used xs p e h ∙ ap (λ n. set (take used xs) n e) at ∙ sym (replaced (take used xs) there)
+        take-set-lt used xs p e h ∙ ap (λ n. set (take used xs) n e) at ∙ sym (replaced (take used xs) there)
 
     pub put_behind : used ≤ p → p < length xs → take (used + 1) (set xs p e) ≡ with_entry key e (take used xs)
     put_behind h within =

@@ -1,3 +1,4 @@
+#![tactic(auto)]
 // What happens to a timetable in the course of a service day.
 //
 // `Cancellations` and `Delays` are timetables over any timetable, which they hold by value. Each has

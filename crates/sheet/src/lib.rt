@@ -1,3 +1,4 @@
+#![tactic(auto)]
 // Rows of arrival and price, and the sheet of bytes that holds them.
 //
 // A board shows its best offers as rows, each later and cheaper than the one before. `write` packs

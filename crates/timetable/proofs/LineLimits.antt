@@ -1,10 +1,10 @@
 -- The test of a line's limits is the limits in plain facts.
-use Rattle.std.proofs.Common.{◌≡◌, ℕ, zero, suc, ◌+◌, ◌*◌, ◌<◌, ◌≤◌, Bool, true, false, ◌&&◌, eqb, leb, List, [], ◌∷◌, length, Some, None, Option, sym, refl, ◌∙◌, subst, ⊎_elim, arith}
+use Rattle.std.proofs.Common.{◌≡◌, ℕ, zero, suc, ◌+◌, ◌*◌, ◌<◌, ◌≤◌, Bool, true, false, ◌&&◌, eqb, leb, List, [], ◌∷◌, length, Some, None, Option, sym, refl, ◌∙◌, subst, arith}
 use Rattle.std.specs.List.{slice_get}
-use Rattle.std.proofs.lemmas.Bool.{and_parts, and_from, leb-true, le-leb, eqb-true, eq-eqb, cases_lt, true≢false}
+use Rattle.std.proofs.lemmas.Bool.{and_parts, and_from, leb-true, le-leb, eqb-true, eq-eqb, true≢false}
 use Rattle.timetable.specs.declared.hops.Hop.{Hop}
-use Rattle.timetable.specs.Line.{most_pattern, shortest_interval, longest_interval, most_trips, hops_of_first_trip, arriving_by, all_arrive, within_range, line_allowed, Allowed, NotLine, Tested, outside}
-use Rattle.timetable.specs.LineFacts.{Passed, passed}
+use Rattle.timetable.specs.Line.{most_pattern, shortest_interval, longest_interval, most_trips, hops_of_first_trip, arriving_by, all_arrive, line_allowed, Allowed, Tested, outside}
+use Rattle.timetable.specs.LineFacts.{passed}
 use Rattle.timetable.specs.Rule.{day_end}
 use Rattle.timetable.specs.RuleFacts.{rule_kept, rule_tested}
 use Rattle.timetable.proofs.Lines.{trip_arrives}

@@ -1,16 +1,16 @@
 -- Interval lines: their limits, and the hop at a place by division.
-use Rattle.std.proofs.Common.{◌≡◌, ℕ, zero, suc, ◌+◌, ◌-◌, ◌*◌, ◌/◌, ◌%◌, ◌<◌, ◌≤◌, min, Bool, true, false, cond, ◌&&◌, eqb, leb, List, [], ◌∷◌, ◌++◌, map, length, get_or, take, drop, set, Some, None, Option, sym, refl, ap, ◌∙◌, subst, ⊎_elim, suc-mul, mul_comm, arith, length-append}
-use lib.ListN.{length_map}
+use Rattle.std.proofs.Common.{◌≡◌, ℕ, zero, suc, ◌+◌, ◌-◌, ◌*◌, ◌/◌, ◌%◌, ◌<◌, ◌≤◌, Bool, true, false, ◌&&◌, eqb, leb, List, [], ◌∷◌, ◌++◌, map, length, get_or, take, drop, set, Some, None, sym, refl, ap, ◌∙◌, subst, ⊎_elim, suc-mul, mul_comm, arith, length-append}
+use lib.ListN.{length-map}
 use Rattle.std.proofs.lemmas.Nat.{mul-le, mul-add-lt, div-add-mod', div-mul-add, mod-mul-add, div_below, mod_below}
 use Rattle.std.proofs.lemmas.List.{at_drop_more, at_drop_all, get_or_append_left, get_or-append_right, get_or-map, get_or-take, take_all, take_more, take_more_set}
 use Rattle.std.proofs.lemmas.Option.{slice_get-get_or}
-use Rattle.std.proofs.lemmas.Bool.{and_parts, and_from, and_left, and_right, le-leb, leb-true, cases_lt, cases_Bool}
+use Rattle.std.proofs.lemmas.Bool.{and_parts, and_from, and_left, and_right, le-leb, leb-true, cases_lt}
 use Rattle.timetable.specs.declared.hops.Hop.{Hop}
 use Rattle.timetable.specs.Line.{most_pattern, shortest_interval, longest_interval, most_trips, shifted, line, hops_of_first_trip, arriving_by, all_arrive, within_range, line_allowed}
 use Rattle.timetable.specs.LineFacts.{Passed, passed, line_trips}
-use Rattle.timetable.specs.Rule.{day_end, keeps, Limits}
+use Rattle.timetable.specs.Rule.{day_end, keeps}
 use Rattle.timetable.specs.RuleFacts.{fit_at, fit_limits}
-use Rattle.timetable.specs.Table.{most_hops, trips_of, hop_at, held}
+use Rattle.timetable.specs.Table.{most_hops, trips_of, hop_at}
 use Rattle.timetable.proofs.Places.{hop_at_place, hop_at_end, hop_at_far}
 
 -- A loop that tests each hop: F is the test of what is left.
@@ -57,7 +57,7 @@ length_line pattern interval zero = omega arith
 length_line pattern interval (suc n) =
     length-append (line pattern interval n) (map (shifted n (n * interval)) pattern)
     ∙ ap (λ m. m + length (map (shifted n (n * interval)) pattern)) (length_line pattern interval n)
-    ∙ ap (λ m. n * length pattern + m) (length_map pattern (shifted n (n * interval)))
+    ∙ ap (λ m. n * length pattern + m) (length-map pattern (shifted n (n * interval)))
     ∙ sym (suc-mul n (length pattern))
 
 -- trip `place / length` has the hop `place % length` of the pattern there

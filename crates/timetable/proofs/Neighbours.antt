@@ -1,8 +1,8 @@
 -- What the timetable rule says of a hop at a place, and of two neighbours: what a planner needs of any timetable's list.
-use Rattle.std.proofs.Common.{◌≡◌, ℕ, suc, ◌+◌, ◌<◌, ◌≤◌, Bool, true, false, cond, ltb, ◌⊎◌, List, [], ◌∷◌, Some, None, Option, sym, refl, ap, ◌∙◌, arith}
+use Rattle.std.proofs.Common.{◌≡◌, ℕ, suc, ◌+◌, ◌<◌, ◌≤◌, Bool, true, false, cond, ltb, ◌⊎◌, List, Some, None, arith}
 use Rattle.std.specs.List.{slice_get}
 use Rattle.timetable.specs.declared.hops.Hop.{Hop}
-use Rattle.timetable.specs.Rule.{day_end, most_metres, top_level, top_event, keeps, Limits, Rule}
+use Rattle.timetable.specs.Rule.{keeps, Limits}
 use Rattle.timetable.specs.RuleFacts.{rule_kept}
 use Rattle.timetable.specs.Table.{most_hops, hop_at}
 

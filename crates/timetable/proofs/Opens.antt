@@ -1,9 +1,9 @@
 -- Where a list first breaks the timetable rule, in the rule's plain facts.
-use Rattle.std.proofs.Common.{◌≡◌, ℕ, zero, suc, ◌+◌, ◌<◌, ◌≤◌, Bool, true, false, cond, not, List, [], ◌∷◌, length, take, Some, None, Option, sym, refl, ap, ◌∙◌, subst, ⊎_elim, arith}
+use Rattle.std.proofs.Common.{◌≡◌, ℕ, zero, suc, ◌<◌, ◌≤◌, Bool, true, false, cond, not, List, length, take, Some, None, Option, sym, refl, ap, ◌∙◌, subst, ⊎_elim, arith}
 use Rattle.std.proofs.lemmas.List.{take_all}
 use Rattle.std.proofs.lemmas.Bool.{cases_lt, not-true, not-false, true≢false}
 use Rattle.timetable.specs.declared.hops.Hop.{Hop}
-use Rattle.timetable.specs.Rule.{keeps, Rule}
+use Rattle.timetable.specs.Rule.{keeps}
 use Rattle.timetable.specs.RuleFacts.{rule_kept, rule_tested}
 use Rattle.timetable.specs.Table.{least, first_break, break_of, BreaksAt, Searched, breaks}
 

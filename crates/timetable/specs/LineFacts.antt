@@ -1,11 +1,11 @@
 -- An allowed line keeps the timetable rule. (The proof stands here, and not in proofs/, since an impl cites it.)
 -- Assumes nothing.
-use Rattle.std.specs.Prelude.{◌≡◌, ℕ, zero, suc, ◌+◌, ◌*◌, ◌<◌, ◌≤◌, Bool, true, false, ◌&&◌, List, [], ◌∷◌, ◌++◌, map, length, Some, None, Option, ◌==◌, nat_le, refl}
-use Rattle.std.proofs.Common.{sym, ◌∙◌, ap, subst, arith}
+use Rattle.std.specs.Prelude.{◌≡◌, ℕ, zero, suc, ◌+◌, ◌*◌, ◌≤◌, true, ◌&&◌, List, [], ◌∷◌, ◌++◌, map, length, Some, None, Option, ◌==◌, nat_le, refl}
+use Rattle.std.proofs.Common.{sym, ◌∙◌, ap, arith}
 use Rattle.std.proofs.lemmas.Bool.{and_parts, and_from, or_left, or_right, leb-true, eqb-true, eq-eqb}
 use Rattle.timetable.specs.declared.hops.Hop.{Hop}
 use Rattle.timetable.specs.Line.{most_pattern, shortest_interval, longest_interval, most_trips, shifted, line, hops_of_first_trip, arriving_by, all_arrive, within_range, line_allowed}
-use Rattle.timetable.specs.Rule.{day_end, fit, joined, next_trip, may_stand_after, keeps_after, keeps}
+use Rattle.timetable.specs.Rule.{day_end, fit, may_stand_after, keeps_after, keeps}
 use Rattle.timetable.specs.RuleFacts.{fit_limits, fit_tested, joined_meets, joined_tested, follow_fit, follow_joined}
 use Rattle.timetable.specs.Table.{last_after, trips_upto}
 

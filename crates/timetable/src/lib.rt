@@ -1,3 +1,4 @@
+#![tactic(auto)]
 // Timetables: what vehicles do on a service day, as lists of hops that keep one rule.
 //
 // `Hop` is one vehicle from one stop to the next. The trait `Timetable` is anything that means a

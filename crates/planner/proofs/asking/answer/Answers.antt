@@ -21,10 +21,10 @@ returns-in-Err g c =
     let r = scan_for f hops c.args.paths.now q m.labels m.aboard in
     let filled = scan_filled f (record { labels = length m.labels; aboard = length m.aboard }) hops c.args.paths.now (label_at_origin f q.origin q.departure) m.aboard q.rides in
     let l = ended_leaves f q.destination m r c.in-Err.full c.room.result c.scan.new.self.labels.now c.scan.new.self.used c.scan.new.aboard filled c.in-Err.ensures.answer c.scan.ensures.labels c.scan.ensures.used c.scan.ensures.aboard c.room.ensures in
-    record { answer = ap Err c.scan-refusal.ensures ∙ l.answer; labels = l.labels; written = l.written; aboard = l.aboard; sheet = l.sheet; legs = l.legs }
+    record { answer = ap Err c.scan_refusal.ensures ∙ l.answer; labels = l.labels; written = l.written; aboard = l.aboard; sheet = l.sheet; legs = l.legs }
 
-pub returns-then-count-gt-MOST-ROWS : goal.returns-then-count-gt-MOST-ROWS
-returns-then-count-gt-MOST-ROWS g c =
+pub returns-then-count-gt-MOST_ROWS : goal.returns-then-count-gt-MOST_ROWS
+returns-then-count-gt-MOST_ROWS g c =
     let f = g.F.Fare.model c.args.fare.now in
     let hops = g.T.Timetable.hops c.args.timetable.now in
     let q = c.args.question.now in
@@ -34,10 +34,10 @@ returns-then-count-gt-MOST-ROWS g c =
     let s = k.0 in
     let found : c.written.result.now ≡ s.store = c.written.ensures ∙ store_written f q.destination m r s c.scan.new.self.used c.scan.new.self.labels.now k.1 c.scan.ensures.used c.scan.ensures.labels in
     let count : c.select-count.result ≡ length (best_offers f q.destination s.store) = c.select-count.ensures.count ∙ ap (λ ls. length (best_offers f q.destination ls)) found in
-    many_leaves f q.destination m r s c.select-count.result c.scan.new.self.labels.now c.scan.new.self.used c.scan.new.aboard k.1 count c.if-count-gt-MOST-ROWS.true c.scan.ensures.labels c.scan.ensures.used c.scan.ensures.aboard
+    many_leaves f q.destination m r s c.select-count.result c.scan.new.self.labels.now c.scan.new.self.used c.scan.new.aboard k.1 count c.if-count-gt-MOST_ROWS.true c.scan.ensures.labels c.scan.ensures.used c.scan.ensures.aboard
 
-pub print-offers-requires : goal.print-offers-requires
-print-offers-requires g c =
+pub print_offers-requires : goal.print_offers-requires
+print_offers-requires g c =
     let f = g.F.Fare.model c.args.fare.now in
     let hops = g.T.Timetable.hops c.args.timetable.now in
     let q = c.args.question.now in
@@ -48,10 +48,10 @@ print-offers-requires g c =
     let found : c.written.result.now ≡ s.store = c.written.ensures ∙ store_written f q.destination m r s c.scan.new.self.used c.scan.new.self.labels.now k.1 c.scan.ensures.used c.scan.ensures.labels in
     let count : c.select-count.result ≡ length (best_offers f q.destination s.store) = c.select-count.ensures.count ∙ ap (λ ls. length (best_offers f q.destination ls)) found in
     let again : c.written-2.result.now ≡ s.store = c.written-2.ensures ∙ store_written f q.destination m r s c.scan.new.self.used c.scan.new.self.labels.now k.1 c.scan.ensures.used c.scan.ensures.labels in
-    let offers : take (c.select-count.result - 0) c.select-count.new.offers ≡ best_offers f q.destination c.written-2.result.now = offers_taken (best_offers f q.destination c.written.result.now) (replicate 32 no_offer) c.select-count.new.offers c.select-count.result c.select-count.ensures.count c.if-count-gt-MOST-ROWS.false c.select-count.ensures.written ∙ ap (best_offers f q.destination) (found ∙ sym again) in
+    let offers : take (c.select-count.result - 0) c.select-count.new.offers ≡ best_offers f q.destination c.written-2.result.now = offers_taken (best_offers f q.destination c.written.result.now) (replicate 32 no_offer) c.select-count.new.offers c.select-count.result c.select-count.ensures.count c.if-count-gt-MOST_ROWS.false c.select-count.ensures.written ∙ ap (best_offers f q.destination) (found ∙ sym again) in
     let lim = limits q c.args.stops.now c.args.paths.now hops (length m.sheet) (length m.legs) c.requires in
     let is = store_is f q c.args.stops.now c.args.paths.now hops (length m.sheet) (length m.legs) (g.T.Timetable.rule c.args.timetable.now) lim m.labels m.aboard s k.1 in
-    printable f q c.args.stops.now c.args.paths.now hops (length m.sheet) (length m.legs) (g.T.Timetable.rule c.args.timetable.now) lim c.written-2.result.now (take (c.select-count.result - 0) c.select-count.new.offers) (again ∙ is) offers (omega (arith, ap length offers, ap (λ ls. length (best_offers f q.destination ls)) again, count, c.if-count-gt-MOST-ROWS.false))
+    printable f q c.args.stops.now c.args.paths.now hops (length m.sheet) (length m.legs) (g.T.Timetable.rule c.args.timetable.now) lim c.written-2.result.now (take (c.select-count.result - 0) c.select-count.new.offers) (again ∙ is) offers (omega (arith, ap length offers, ap (λ ls. length (best_offers f q.destination ls)) again, count, c.if-count-gt-MOST_ROWS.false))
 
 pub returns : goal.returns
 returns g c =
@@ -65,9 +65,9 @@ returns g c =
     let found : c.written.result.now ≡ s.store = c.written.ensures ∙ store_written f q.destination m r s c.scan.new.self.used c.scan.new.self.labels.now k.1 c.scan.ensures.used c.scan.ensures.labels in
     let count : c.select-count.result ≡ length (best_offers f q.destination s.store) = c.select-count.ensures.count ∙ ap (λ ls. length (best_offers f q.destination ls)) found in
     let again : c.written-2.result.now ≡ s.store = c.written-2.ensures ∙ store_written f q.destination m r s c.scan.new.self.used c.scan.new.self.labels.now k.1 c.scan.ensures.used c.scan.ensures.labels in
-    let offers : take (c.select-count.result - 0) c.select-count.new.offers ≡ best_offers f q.destination c.written-2.result.now = offers_taken (best_offers f q.destination c.written.result.now) (replicate 32 no_offer) c.select-count.new.offers c.select-count.result c.select-count.ensures.count c.if-count-gt-MOST-ROWS.false c.select-count.ensures.written ∙ ap (best_offers f q.destination) (found ∙ sym again) in
+    let offers : take (c.select-count.result - 0) c.select-count.new.offers ≡ best_offers f q.destination c.written-2.result.now = offers_taken (best_offers f q.destination c.written.result.now) (replicate 32 no_offer) c.select-count.new.offers c.select-count.result c.select-count.ensures.count c.if-count-gt-MOST_ROWS.false c.select-count.ensures.written ∙ ap (best_offers f q.destination) (found ∙ sym again) in
     let taken = offers ∙ ap (best_offers f q.destination) again in
-    few_leaves f q.destination m r s c.print-offers.result c.scan.new.self.labels.now c.scan.new.self.used c.scan.new.aboard c.print-offers.new.out.sheet.now c.print-offers.new.out.legs.now k.1 (omega (arith, count, c.if-count-gt-MOST-ROWS.false)) c.scan.ensures.labels c.scan.ensures.used c.scan.ensures.aboard
-    (c.print-offers.ensures.answer ∙ (λ v. record { rows = length (taken v); labels = length (again v); bytes = length (encode (map row_of (taken v))); legs = length (legs_from (again v) 0 (taken v)) }))
-    (c.print-offers.ensures.sheet ∙ ap (λ os. laid (encode (map row_of os)) m.sheet) taken)
-    (c.print-offers.ensures.legs ∙ (λ v. laid (legs_from (again v) 0 (taken v)) m.legs))
+    few_leaves f q.destination m r s c.print_offers.result c.scan.new.self.labels.now c.scan.new.self.used c.scan.new.aboard c.print_offers.new.out.sheet.now c.print_offers.new.out.legs.now k.1 (omega (arith, count, c.if-count-gt-MOST_ROWS.false)) c.scan.ensures.labels c.scan.ensures.used c.scan.ensures.aboard
+    (c.print_offers.ensures.answer ∙ (λ v. record { rows = length (taken v); labels = length (again v); bytes = length (encode (map row_of (taken v))); legs = length (legs_from (again v) 0 (taken v)) }))
+    (c.print_offers.ensures.sheet ∙ ap (λ os. laid (encode (map row_of os)) m.sheet) taken)
+    (c.print_offers.ensures.legs ∙ (λ v. laid (legs_from (again v) 0 (taken v)) m.legs))

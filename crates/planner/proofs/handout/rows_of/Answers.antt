@@ -6,7 +6,7 @@ use Rattle.planner.proofs.handout.rows_of.Goals as goal
 
 pub loop-place-preserved : goal.loop-place-preserved
 loop-place-preserved c = (
-  row_turn row_of c.args.offers.now c.loop-place.rows c.loop-place.place no_offer c.row-of.result c.loop-place-test.true (omega (arith, c.loop-place-test.true, c.loop-place.invariant.1, c.requires)) c.row-of.ensures c.loop-place.invariant.0,
+  row_turn row_of c.args.offers.now c.loop-place.rows c.loop-place.place no_offer c.row_of.result c.loop-place-test.true (omega (arith, c.loop-place-test.true, c.loop-place.invariant.1, c.requires)) c.row_of.ensures c.loop-place.invariant.0,
   simp length-set c.loop-place.invariant.1,
 )
 

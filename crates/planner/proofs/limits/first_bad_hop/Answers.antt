@@ -11,17 +11,17 @@ loop-place-init g c = refl
 pub loop-place-preserved-in-default : goal.loop-place-preserved-in-default
 loop-place-preserved-in-default g c = absurd (hop_missed (g.T.Timetable.hops c.args.timetable.now) c.loop-place.place c.count-count.result c.count-count.ensures c.loop-place-test.true c.hop.result c.hop.ensures c.in-default.is)
 
-pub returns-then-not-is-hop-within : goal.returns-then-not-is-hop-within
-returns-then-not-is-hop-within g c =
+pub returns-then-not-is_hop_within : goal.returns-then-not-is_hop_within
+returns-then-not-is_hop_within g c =
     let hs = g.T.Timetable.hops c.args.timetable.now in
     let e = hop_read hs c.loop-place.place c.count-count.result c.count-count.ensures c.loop-place-test.true c.in-Some.hop c.hop.result c.hop.ensures c.in-Some.is in
-    fails (hop_within c.args.stops) (take most_hops hs) c.loop-place.place c.loop-place.invariant no_hop (hop_counted hs c.loop-place.place c.count-count.result c.count-count.ensures c.loop-place-test.true) (c.if-not-is-hop-within.ensures ∙ ap (hop_within c.args.stops) e)
+    fails (hop_within c.args.stops) (take most_hops hs) c.loop-place.place c.loop-place.invariant no_hop (hop_counted hs c.loop-place.place c.count-count.result c.count-count.ensures c.loop-place-test.true) (c.if-not-is_hop_within.ensures ∙ ap (hop_within c.args.stops) e)
 
 pub loop-place-preserved : goal.loop-place-preserved
 loop-place-preserved g c =
     let hs = g.T.Timetable.hops c.args.timetable.now in
     let e = hop_read hs c.loop-place.place c.count-count.result c.count-count.ensures c.loop-place-test.true c.in-Some.hop c.hop.result c.hop.ensures c.in-Some.is in
-    goes_on (hop_within c.args.stops) (take most_hops hs) c.loop-place.place c.loop-place.invariant no_hop (hop_counted hs c.loop-place.place c.count-count.result c.count-count.ensures c.loop-place-test.true) (c.if-not-is-hop-within.ensures ∙ ap (hop_within c.args.stops) e)
+    goes_on (hop_within c.args.stops) (take most_hops hs) c.loop-place.place c.loop-place.invariant no_hop (hop_counted hs c.loop-place.place c.count-count.result c.count-count.ensures c.loop-place-test.true) (c.if-not-is_hop_within.ensures ∙ ap (hop_within c.args.stops) e)
 
 pub returns : goal.returns
 returns g c =

@@ -6,11 +6,11 @@ use Rattle.planner.proofs.limits.first_bad_path.Goals as goal
 pub loop-place-init : goal.loop-place-init
 loop-place-init c = refl
 
-pub returns-then-not-is-path-within : goal.returns-then-not-is-path-within
-returns-then-not-is-path-within c = fails (path_within c.args.stops) c.args.paths.now c.loop-place.place c.loop-place.invariant _ c.loop-place-test.true c.if-not-is-path-within.ensures
+pub returns-then-not-is_path_within : goal.returns-then-not-is_path_within
+returns-then-not-is_path_within c = fails (path_within c.args.stops) c.args.paths.now c.loop-place.place c.loop-place.invariant _ c.loop-place-test.true c.if-not-is_path_within.ensures
 
 pub loop-place-preserved : goal.loop-place-preserved
-loop-place-preserved c = goes_on (path_within c.args.stops) c.args.paths.now c.loop-place.place c.loop-place.invariant _ c.loop-place-test.true c.if-not-is-path-within.ensures
+loop-place-preserved c = goes_on (path_within c.args.stops) c.args.paths.now c.loop-place.place c.loop-place.invariant _ c.loop-place-test.true c.if-not-is_path_within.ensures
 
 pub returns : goal.returns
 returns c = ends (path_within c.args.stops) c.args.paths.now c.loop-place.place c.loop-place.invariant c.loop-place-test.false

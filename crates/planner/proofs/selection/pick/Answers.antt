@@ -8,7 +8,7 @@ use Rattle.planner.proofs.selection.pick.Goals as goal
 pub loop-place-preserved : goal.loop-place-preserved
 loop-place-preserved g c =
     let p = picking_one (g.F.Fare.model c.args.fare.now) c.args.destination c.args.bound in
-    c.pick-one-found.ensures ∙ ap (p c.loop-place.place c.index-labels-place.result) c.loop-place.invariant ∙ sym (foldi_more p c.args.labels.now c.loop-place.place c.index-labels-place.result None c.loop-place-test.true c.index-labels-place.is)
+    c.pick_one-found.ensures ∙ ap (p c.loop-place.place c.index-labels-place.result) c.loop-place.invariant ∙ sym (foldi_more p c.args.labels.now c.loop-place.place c.index-labels-place.result None c.loop-place-test.true c.index-labels-place.is)
 
 pub returns : goal.returns
 unfolding pick

@@ -7,8 +7,8 @@ use Rattle.planner.specs.Promise.{setup_of}
 use Rattle.planner.proofs.SameSheets.{same_sheets, compared_ok}
 use Rattle.planner.proofs.two_boards.compare.Goals as goal
 
-pub is-same-sheet-requires : goal.is-same-sheet-requires
-is-same-sheet-requires g c = (c.in-Ok.ensures.promise.bytes_fit, c.in-Ok-ask.ensures.promise.bytes_fit)
+pub is_same_sheet-requires : goal.is_same_sheet-requires
+is_same_sheet-requires g c = (c.in-Ok.ensures.promise.bytes_fit, c.in-Ok-ask.ensures.promise.bytes_fit)
 
 pub returns-in-Err : goal.returns-in-Err
 returns-in-Err g c =
@@ -26,7 +26,7 @@ returns-in-Err g c =
     let second_question = c.args.second.now.question in
     let second_fare = fare_over (g.G.Tariff.model c.args.second.now.board.tariff.now) (g.N.Measure.model c.args.second.now.board.measure.now) second_stops in
     let second_setup = setup_of second_fare second_hops second_paths second_question in
-    let second_memory : Memory (FareState g.row.G-Ticket.Denot g.row.N-Weight.Denot) = record { labels = c.args.other-store.now.labels.now; written = c.args.other-store.now.used; aboard = c.args.other-aboard.now; sheet = c.args.other-out.now.sheet.now; legs = c.args.other-out.now.legs.now } in
+    let second_memory : Memory (FareState g.row.G-Ticket.Denot g.row.N-Weight.Denot) = record { labels = c.args.other_store.now.labels.now; written = c.args.other_store.now.used; aboard = c.args.other_aboard.now; sheet = c.args.other_out.now.sheet.now; legs = c.args.other_out.now.legs.now } in
     let second_outcome = asked second_fare second_hops second_stops second_paths second_question second_memory in
     record {
       answer = ap (λ r. compared r first_outcome.left.sheet second_outcome.answer second_outcome.left.sheet) c.in-Err.ensures.outcome.answer;
@@ -52,7 +52,7 @@ returns-in-Err-ask g c =
     let second_question = c.args.second.now.question in
     let second_fare = fare_over (g.G.Tariff.model c.args.second.now.board.tariff.now) (g.N.Measure.model c.args.second.now.board.measure.now) second_stops in
     let second_setup = setup_of second_fare second_hops second_paths second_question in
-    let second_memory : Memory (FareState g.row.G-Ticket.Denot g.row.N-Weight.Denot) = record { labels = c.args.other-store.now.labels.now; written = c.args.other-store.now.used; aboard = c.args.other-aboard.now; sheet = c.args.other-out.now.sheet.now; legs = c.args.other-out.now.legs.now } in
+    let second_memory : Memory (FareState g.row.G-Ticket.Denot g.row.N-Weight.Denot) = record { labels = c.args.other_store.now.labels.now; written = c.args.other_store.now.used; aboard = c.args.other_aboard.now; sheet = c.args.other_out.now.sheet.now; legs = c.args.other_out.now.legs.now } in
     let second_outcome = asked second_fare second_hops second_stops second_paths second_question second_memory in
     record {
       answer = ap (λ r. compared r first_outcome.left.sheet (Err c.in-Err-ask.refusal) second_outcome.left.sheet) c.in-Ok.ensures.outcome.answer
@@ -79,14 +79,14 @@ returns g c =
     let second_question = c.args.second.now.question in
     let second_fare = fare_over (g.G.Tariff.model c.args.second.now.board.tariff.now) (g.N.Measure.model c.args.second.now.board.measure.now) second_stops in
     let second_setup = setup_of second_fare second_hops second_paths second_question in
-    let second_memory : Memory (FareState g.row.G-Ticket.Denot g.row.N-Weight.Denot) = record { labels = c.args.other-store.now.labels.now; written = c.args.other-store.now.used; aboard = c.args.other-aboard.now; sheet = c.args.other-out.now.sheet.now; legs = c.args.other-out.now.legs.now } in
+    let second_memory : Memory (FareState g.row.G-Ticket.Denot g.row.N-Weight.Denot) = record { labels = c.args.other_store.now.labels.now; written = c.args.other_store.now.used; aboard = c.args.other_aboard.now; sheet = c.args.other_out.now.sheet.now; legs = c.args.other_out.now.legs.now } in
     let second_outcome = asked second_fare second_hops second_stops second_paths second_question second_memory in
     let bytes = c.ask.new.out.sheet.now in
     let others = c.ask-2.new.out.sheet.now in
-    let same : Decides c.is-same-sheet.result (take c.in-Ok.answer.bytes bytes ≡ take c.in-Ok-ask.answer.bytes others) = c.is-same-sheet.ensures in
+    let same : Decides c.is_same_sheet.result (take c.in-Ok.answer.bytes bytes ≡ take c.in-Ok-ask.answer.bytes others) = c.is_same_sheet.ensures in
     record {
-      answer = compared_ok c.in-Ok.answer c.in-Ok-ask.answer bytes others first_outcome.answer second_outcome.answer first_outcome.left.sheet second_outcome.left.sheet c.is-same-sheet.result c.in-Ok.ensures.outcome.answer c.ask.ensures.outcome.sheet c.in-Ok-ask.ensures.outcome.answer c.ask-2.ensures.outcome.sheet same;
-      same-offers = same_sheets first_setup first_question.destination first_question.rides c.in-Ok.answer bytes c.ask.new.out.legs.now c.in-Ok.ensures.promise second_setup second_question.destination second_question.rides c.in-Ok-ask.answer others c.ask-2.new.out.legs.now c.in-Ok-ask.ensures.promise c.is-same-sheet.result same;
+      answer = compared_ok c.in-Ok.answer c.in-Ok-ask.answer bytes others first_outcome.answer second_outcome.answer first_outcome.left.sheet second_outcome.left.sheet c.is_same_sheet.result c.in-Ok.ensures.outcome.answer c.ask.ensures.outcome.sheet c.in-Ok-ask.ensures.outcome.answer c.ask-2.ensures.outcome.sheet same;
+      same-offers = same_sheets first_setup first_question.destination first_question.rides c.in-Ok.answer bytes c.ask.new.out.legs.now c.in-Ok.ensures.promise second_setup second_question.destination second_question.rides c.in-Ok-ask.answer others c.ask-2.new.out.legs.now c.in-Ok-ask.ensures.promise c.is_same_sheet.result same;
       first = record { labels = c.ask.ensures.outcome.labels; written = c.ask.ensures.outcome.written; aboard = c.ask.ensures.outcome.aboard; sheet = c.ask.ensures.outcome.sheet; legs = c.ask.ensures.outcome.legs };
       second = subst (λ r. Holds (left_of_second r second_memory second_outcome) c.ask-2.new.store.labels.now c.ask-2.new.store.used c.ask-2.new.aboard others c.ask-2.new.out.legs.now) c.in-Ok.ensures.outcome.answer
           (record { labels = c.ask-2.ensures.outcome.labels; written = c.ask-2.ensures.outcome.written; aboard = c.ask-2.ensures.outcome.aboard; sheet = c.ask-2.ensures.outcome.sheet; legs = c.ask-2.ensures.outcome.legs });

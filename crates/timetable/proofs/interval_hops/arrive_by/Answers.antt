@@ -1,6 +1,5 @@
-use Rattle.std.proofs.Common.{◌+◌, Bool, true, leb, get_or, refl, arith}
+use Rattle.std.proofs.Common.{◌+◌, leb, get_or, refl, arith}
 use Rattle.std.proofs.lemmas.Bool.{le-leb, lt-leb}
-use Rattle.timetable.specs.declared.hops.Hop.{Hop}
 use Rattle.timetable.specs.Rule.{day_end}
 use Rattle.timetable.specs.Line.{arriving_by}
 use Rattle.timetable.proofs.Lines.{passes, fails, all_pass}

@@ -1,5 +1,4 @@
 use Rattle.std.proofs.Common.{◌≡◌, drop}
-use Rattle.timetable.specs.Rule.{day_end}
 use Rattle.timetable.specs.Line.{arriving_by}
 use Rattle.timetable.proofs.interval_hops.arrive_by.Given as goal
 

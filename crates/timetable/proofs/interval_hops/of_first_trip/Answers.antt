@@ -1,6 +1,5 @@
-use Rattle.std.proofs.Common.{Bool, true, ◌&&◌, eqb, get_or, refl, arith}
+use Rattle.std.proofs.Common.{◌&&◌, eqb, get_or, refl}
 use Rattle.std.proofs.lemmas.Bool.{and_left, and_right, and_from, eq-eqb, ne_eqb}
-use Rattle.timetable.specs.declared.hops.Hop.{Hop}
 use Rattle.timetable.specs.Line.{hops_of_first_trip}
 use Rattle.timetable.proofs.Lines.{passes, fails, all_pass}
 use Rattle.timetable.proofs.Places.{blank}

@@ -10,16 +10,16 @@ returns-in-default g c =
     let off = cancelled_in c.args.self.now in
     hop_changed (cancelled_by off) (g.T.Timetable.hops c.args.self.now.below) c.args.place None (sym c.in-default.is ∙ c.hop.ensures)
 
-pub returns-then-is-cancelled : goal.returns-then-is-cancelled
-returns-then-is-cancelled g c =
+pub returns-then-is_cancelled : goal.returns-then-is_cancelled
+returns-then-is_cancelled g c =
     let off = cancelled_in c.args.self.now in
     let hop = c.in-Some.hop in
-    ap Some (c.halted.ensures ∙ sym (cond-true (off hop.trip) (halted hop) hop (sym c.if-is-cancelled.ensures)))
+    ap Some (c.halted.ensures ∙ sym (cond-true (off hop.trip) (halted hop) hop (sym c.if-is_cancelled.ensures)))
     ∙ hop_changed (cancelled_by off) (g.T.Timetable.hops c.args.self.now.below) c.args.place (Some hop) (sym c.in-Some.is ∙ c.hop.ensures)
 
-pub returns-else-is-cancelled : goal.returns-else-is-cancelled
-returns-else-is-cancelled g c =
+pub returns-else-is_cancelled : goal.returns-else-is_cancelled
+returns-else-is_cancelled g c =
     let off = cancelled_in c.args.self.now in
     let hop = c.in-Some.hop in
-    ap Some (sym (cond-false (off hop.trip) (halted hop) hop (sym c.if-is-cancelled.ensures)))
+    ap Some (sym (cond-false (off hop.trip) (halted hop) hop (sym c.if-is_cancelled.ensures)))
     ∙ hop_changed (cancelled_by off) (g.T.Timetable.hops c.args.self.now.below) c.args.place (Some hop) (sym c.in-Some.is ∙ c.hop.ensures)

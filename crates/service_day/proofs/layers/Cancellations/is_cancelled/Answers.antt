@@ -9,4 +9,4 @@ returns g c =
     let part : length (take (table.used - 0) table.trips) ≡ table.used - 0 = omega arith in
     let whole : table.used - 0 ≡ table.used = omega arith in
     let long : length (take table.used table.trips) ≡ table.used = rw whole at part in
-    listed_test itself c.args.trip (take table.used table.trips) table.used _ long (in_part itself c.args.trip table.trips table.used _ c.place-of.ensures)
+    listed_test itself c.args.trip (take table.used table.trips) table.used _ long (in_part itself c.args.trip table.trips table.used _ c.place_of.ensures)

@@ -7,8 +7,8 @@ use Rattle.service_day.proofs.Members.{still_tidy_without}
 use Rattle.service_day.proofs.Outcomes.{reinstate_done, taken_listed}
 use Rattle.service_day.proofs.layers.Cancellations.reinstate.Goals as goal
 
-pub invariant-of-self : goal.invariant-of-self
-invariant-of-self g c =
+pub invariant_of-self : goal.invariant_of-self
+invariant_of-self g c =
     let table = c.args.self.now in (
       omega (arith, c.strike-self.ensures.fewer),
       (subst (λ l. tidy itself l ≡ true) (sym c.strike-self.ensures.rest) (still_tidy_without itself c.args.trip (trips_listed table) table.tidy), tt),
@@ -18,5 +18,5 @@ pub returns : goal.returns
 returns g c =
     let table = c.args.self.now in
     let trip = c.args.trip in
-    let e = reinstate_done (trips_of (g.T.Timetable.hops table.below)) trip c.trips.result c.trips.ensures c.if-trip-trips.false (trips_listed table) (sym c.if-not-is-cancelled.ensures) in
+    let e = reinstate_done (trips_of (g.T.Timetable.hops table.below)) trip c.trips.result c.trips.ensures c.if-trip-trips.false (trips_listed table) (sym c.if-not-is_cancelled.ensures) in
     record { answer = sym (ap told e); set = taken_listed trip (trips_listed table) (take c.strike-self.result c.strike-self.new.entries) c.strike-self.ensures.rest ∙ sym (ap (left (cancelled_in table)) e); under = refl }

@@ -10,7 +10,7 @@ returns-then-place-used g c =
     let part : length (take (table.used - 0) table.delays) ≡ table.used - 0 = omega arith in
     let whole : table.used - 0 ≡ table.used = omega arith in
     let long : length (take table.used table.delays) ≡ table.used = rw whole at part in
-    seconds_at c.args.trip table.delays table.used c.place-of-place.result _ long (in_part trip_of c.args.trip table.delays table.used _ c.place-of-place.ensures) c.if-place-used.true
+    seconds_at c.args.trip table.delays table.used c.place_of-place.result _ long (in_part trip_of c.args.trip table.delays table.used _ c.place_of-place.ensures) c.if-place-used.true
 
 pub returns-else-place-used : goal.returns-else-place-used
 returns-else-place-used g c =
@@ -18,4 +18,4 @@ returns-else-place-used g c =
     let part : length (take (table.used - 0) table.delays) ≡ table.used - 0 = omega arith in
     let whole : table.used - 0 ≡ table.used = omega arith in
     let long : length (take table.used table.delays) ≡ table.used = rw whole at part in
-    seconds_past c.args.trip table.delays table.used c.place-of-place.result long (in_part trip_of c.args.trip table.delays table.used _ c.place-of-place.ensures) c.if-place-used.false
+    seconds_past c.args.trip table.delays table.used c.place_of-place.result long (in_part trip_of c.args.trip table.delays table.used _ c.place_of-place.ensures) c.if-place-used.false

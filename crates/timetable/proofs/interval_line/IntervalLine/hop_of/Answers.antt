@@ -1,4 +1,4 @@
-use Rattle.std.proofs.Common.{◌*◌, get_or, Some, ap, ◌∙◌, arith}
+use Rattle.std.proofs.Common.{get_or, Some, ap, ◌∙◌, arith}
 use Rattle.timetable.specs.Line.{shifted}
 use Rattle.timetable.proofs.Lines.{in_day, forward, hop_is}
 use Rattle.timetable.proofs.Places.{blank}

@@ -14,16 +14,16 @@ bounds-own-place c = omega (arith, (passed c.args.pattern.now c.args.interval c.
 pub loop-place-preserved : goal.loop-place-preserved
 loop-place-preserved c =
     let few = (passed c.args.pattern.now c.args.interval c.args.trips c.requires).few in (
-      copies c.loop-place.own_val c.args.pattern.now c.loop-place.place _ c.loop-place.invariant.0 c.loop-place-test.true (omega (arith, few, c.loop-place.invariant.1)),
-      length-set c.loop-place.own_val c.loop-place.place _ ∙ c.loop-place.invariant.1,
+      copies c.loop-place.own c.args.pattern.now c.loop-place.place _ c.loop-place.invariant.0 c.loop-place-test.true (omega (arith, few, c.loop-place.invariant.1)),
+      length-set c.loop-place.own c.loop-place.place _ ∙ c.loop-place.invariant.1,
     )
 
-pub invariant-of-result : goal.invariant-of-result
-invariant-of-result c =
-    let same = copied c.loop-place.own_val c.args.pattern.now c.loop-place.place c.loop-place.invariant.0 (omega arith) in
-    (ap length same, (ap (λ p. line_allowed p c.args.interval c.args.trips) same ∙ c.requires, tt))
+pub invariant_of-result : goal.invariant_of-result
+invariant_of-result c =
+    let same = copied c.loop-place.own c.args.pattern.now c.loop-place.place c.loop-place.invariant.0 (omega arith) in
+    record { whole = ap length same; allowed = ap (λ p. line_allowed p c.args.interval c.args.trips) same ∙ c.requires }
 
 pub returns : goal.returns
 returns c =
-    let same = copied c.loop-place.own_val c.args.pattern.now c.loop-place.place c.loop-place.invariant.0 (omega arith) in
+    let same = copied c.loop-place.own c.args.pattern.now c.loop-place.place c.loop-place.invariant.0 (omega arith) in
     ap (λ p. line p c.args.interval c.args.trips) same

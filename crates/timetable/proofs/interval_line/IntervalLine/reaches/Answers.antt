@@ -14,4 +14,4 @@ reached l place count is false e =
     past_end l.pattern l.used l.interval l.trips l.whole l.allowed place (omega (arith, ltb-false place count e))
 
 pub returns : goal.returns
-returns c = reached c.args.self.now c.args.place c.hop-count.result c.hop-count.ensures.hops (ltb c.args.place c.hop-count.result) refl
+returns c = reached c.args.self.now c.args.place c.hop_count.result c.hop_count.ensures.hops (ltb c.args.place c.hop_count.result) refl
