@@ -1,5 +1,5 @@
 -- Tables as sets: what they list, and how many.
-use Rattle.std.proofs.Common.{◌≡◌, ℕ, zero, suc, ◌<◌, ◌≤◌, Bool, true, false, cond, not, ◌&&◌, ◌||◌, eqb, ltb, leb, List, [], ◌∷◌, length, filter, sym, refl, ap, ◌∙◌, subst, ⊎_elim, arith}
+use Rattle.std.proofs.Common.{◌≡◌, ℕ, zero, suc, ◌<◌, ◌≤◌, Bool, true, false, cond, not, ◌&&◌, ◌||◌, eqb, ltb, leb, List, [], ◌∷◌, length, sym, refl, ap, ◌∙◌, subst, ⊎_elim, arith}
 use Rattle.std.proofs.lemmas.Bool.{eq-eqb, ne_eqb, eqb-true, eqb-false, cases_eq, or_from, and_parts, and_from, and_right, not-true, ltb-true, lt-ltb}
 use Rattle.service_day.specs.Tables.{most_listed, trip_numbers, listed, tidy, without, with_entry, no_room}
 use Rattle.service_day.specs.Days.{members_below, how_many, set_full}

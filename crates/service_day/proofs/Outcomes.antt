@@ -2,7 +2,7 @@
 use Rattle.std.proofs.Common.{◌≡◌, ℕ, ◌<◌, ◌≤◌, Bool, true, false, cond, not, ◌&&◌, ◌||◌, eqb, ltb, leb, List, [], ◌∷◌, length, take, Some, None, Ok, Err, Result, sym, refl, ap, ◌∙◌, subst, arith}
 use Rattle.std.proofs.lemmas.Bool.{and_parts, and_from, and_left, le-leb, lt-leb, lt-ltb, le-ltb, leb-true, leb-false, ltb-true, ltb-false, eqb-true, eqb-false, ne_eqb, cond-true, cond-false}
 use Rattle.timetable.specs.declared.hops.Hop.{Hop}
-use Rattle.timetable.specs.Table.{trips_of, trips_upto, last_after, held, most_hops}
+use Rattle.timetable.specs.Table.{trips_of}
 use Rattle.service_day.specs.declared.delay.Delay.{Delay}
 use Rattle.service_day.specs.declared.refusal.Refusal.{Refusal}
 use Rattle.service_day.specs.declared.refusal.Refusal.TheVariants.{NoSuchTrip, TableFull, NotCancelled, LongDelay}

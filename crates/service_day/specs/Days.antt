@@ -1,6 +1,6 @@
 -- What a cancellation, a reinstatement and a delay make of the set of cancelled trips and of each trip's delay.
 -- Assumes nothing.
-use Rattle.std.specs.Prelude.{ℕ, zero, suc, Bool, true, false, cond, not, ◌&&◌, ◌||◌, Ok, Err, Result, ◌==◌, nat_le, nat_lt}
+use Rattle.std.specs.Prelude.{ℕ, zero, suc, Bool, cond, not, ◌&&◌, ◌||◌, Ok, Err, Result, ◌==◌, nat_le, nat_lt}
 use Rattle.service_day.specs.declared.refusal.Refusal.{Refusal}
 use Rattle.service_day.specs.declared.refusal.Refusal.TheVariants.{NoSuchTrip, TableFull, NotCancelled, LongDelay}
 use Rattle.service_day.specs.Tables.{most_listed, trip_numbers}

@@ -1,10 +1,10 @@
 -- A layer that keeps each hop's trip, limits and joins keeps the timetable rule. (The proofs stand here, and not in proofs/, since impls cite them.)
 -- Assumes nothing.
-use Rattle.std.specs.Prelude.{◌≡◌, ℕ, ◌+◌, ◌<◌, ◌≤◌, Bool, true, false, cond, not, ◌&&◌, ◌||◌, List, [], ◌∷◌, map, Some, None, Option, ◌==◌, nat_eq, nat_le, nat_lt, refl}
+use Rattle.std.specs.Prelude.{◌≡◌, ℕ, ◌+◌, Bool, true, false, cond, ◌&&◌, ◌||◌, List, [], ◌∷◌, map, Some, None, Option, ◌==◌, nat_eq, nat_le, nat_lt, refl}
 use Rattle.std.proofs.Common.{sym, ◌∙◌, ap, subst, arith}
 use Rattle.std.proofs.lemmas.Bool.{and_parts, and_from, leb-true, ltb-false, true≢false}
 use Rattle.timetable.specs.declared.hops.Hop.{Hop}
-use Rattle.timetable.specs.Rule.{day_end, fit, joined, next_trip, may_stand_after, keeps_after, keeps, Limits}
+use Rattle.timetable.specs.Rule.{day_end, fit, joined, next_trip, may_stand_after, keeps_after, keeps}
 use Rattle.service_day.specs.Changes.{halted, later, cancelled_by, moved, delayed_by}
 use Rattle.timetable.specs.RuleFacts.{fit_limits, fit_tested, joined_meets, joined_tested}
 

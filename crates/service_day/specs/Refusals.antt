@@ -1,6 +1,6 @@
 -- Why a cancellation, a reinstatement or a delay is refused, by number and value; and what a call tells and leaves.
 -- Assumes nothing.
-use Rattle.std.specs.Prelude.{ℕ, List, [], ◌∷◌, Ok, Err, Result}
+use Rattle.std.specs.Prelude.{[], ◌∷◌, Ok, Err, Result}
 use Rattle.timetable.specs.Refusals.{Cause}
 use Rattle.service_day.specs.declared.refusal.Refusal.{Refusal}
 use Rattle.service_day.specs.declared.refusal.Refusal.TheVariants.{NoSuchTrip, TableFull, NotCancelled, LongDelay}

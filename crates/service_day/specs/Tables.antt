@@ -1,6 +1,6 @@
 -- Tables that list entries by trip, in the order in which they came.
 -- Assumes nothing.
-use Rattle.std.specs.Prelude.{ℕ, suc, ◌<◌, Bool, true, false, cond, not, ◌&&◌, ◌||◌, List, [], ◌∷◌, length, filter, ◌==◌, nat_le, nat_lt}
+use Rattle.std.specs.Prelude.{ℕ, suc, Bool, true, false, cond, not, ◌&&◌, ◌||◌, List, [], ◌∷◌, length, filter, ◌==◌, nat_le, nat_lt}
 use Rattle.timetable.specs.Table.{most_hops}
 
 -- the most trips that a table lists

@@ -29,7 +29,7 @@ impl Listed for Delay {
 
 // The place of the first entry of a trip; the number of entries where there is none.
 pub(crate) fn place_of<E: Listed>(entries: &[E], trip: u32) -> usize
-    ensures { result ≡ place_of key trip entries.now }
+    ensures { result ≡ place_of E.Listed.key trip entries.now }
 {
     for place in 0..entries.len() {
         if entries[place].trip() == trip {
@@ -43,7 +43,7 @@ pub(crate) fn place_of<E: Listed>(entries: &[E], trip: u32) -> usize
 pub(crate) fn strike<E: Listed>(entries: &mut [E], used: usize, trip: u32) -> usize
     requires { used ≤ length entries.old }
     ensures fewer { result ≤ used }
-    ensures rest { take result entries.new ≡ without key trip (take used entries.old) }
+    ensures rest { take result entries.new ≡ without E.Listed.key trip (take used entries.old) }
 {
     let mut rest = 0;
     for place in 0..used {

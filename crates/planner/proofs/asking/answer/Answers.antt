@@ -30,7 +30,7 @@ returns-then-count-gt-MOST_ROWS g c =
     let q = c.args.question.now in
     let m : Memory g.row.F-State.Denot = record { labels = c.args.store.now.labels.now; written = c.args.store.now.used; aboard = c.args.aboard.now; sheet = c.args.out.now.sheet.now; legs = c.args.out.now.legs.now } in
     let r = scan_for f hops c.args.paths.now q m.labels m.aboard in
-    let k = came_to f q.destination m r c.in-default.ensures.answer in
+    let k = came_to f q.destination m r c.in_default.ensures.answer in
     let s = k.0 in
     let found : c.written.result.now ≡ s.store = c.written.ensures ∙ store_written f q.destination m r s c.scan.new.self.used c.scan.new.self.labels.now k.1 c.scan.ensures.used c.scan.ensures.labels in
     let count : c.select-count.result ≡ length (best_offers f q.destination s.store) = c.select-count.ensures.count ∙ ap (λ ls. length (best_offers f q.destination ls)) found in
@@ -43,7 +43,7 @@ print_offers-requires g c =
     let q = c.args.question.now in
     let m : Memory g.row.F-State.Denot = record { labels = c.args.store.now.labels.now; written = c.args.store.now.used; aboard = c.args.aboard.now; sheet = c.args.out.now.sheet.now; legs = c.args.out.now.legs.now } in
     let r = scan_for f hops c.args.paths.now q m.labels m.aboard in
-    let k = came_to f q.destination m r c.in-default.ensures.answer in
+    let k = came_to f q.destination m r c.in_default.ensures.answer in
     let s = k.0 in
     let found : c.written.result.now ≡ s.store = c.written.ensures ∙ store_written f q.destination m r s c.scan.new.self.used c.scan.new.self.labels.now k.1 c.scan.ensures.used c.scan.ensures.labels in
     let count : c.select-count.result ≡ length (best_offers f q.destination s.store) = c.select-count.ensures.count ∙ ap (λ ls. length (best_offers f q.destination ls)) found in
@@ -60,7 +60,7 @@ returns g c =
     let q = c.args.question.now in
     let m : Memory g.row.F-State.Denot = record { labels = c.args.store.now.labels.now; written = c.args.store.now.used; aboard = c.args.aboard.now; sheet = c.args.out.now.sheet.now; legs = c.args.out.now.legs.now } in
     let r = scan_for f hops c.args.paths.now q m.labels m.aboard in
-    let k = came_to f q.destination m r c.in-default.ensures.answer in
+    let k = came_to f q.destination m r c.in_default.ensures.answer in
     let s = k.0 in
     let found : c.written.result.now ≡ s.store = c.written.ensures ∙ store_written f q.destination m r s c.scan.new.self.used c.scan.new.self.labels.now k.1 c.scan.ensures.used c.scan.ensures.labels in
     let count : c.select-count.result ≡ length (best_offers f q.destination s.store) = c.select-count.ensures.count ∙ ap (λ ls. length (best_offers f q.destination ls)) found in

@@ -3,7 +3,7 @@ use Rattle.planner.proofs.Handing.{rows_written, ok_same}
 use Rattle.planner.proofs.asking.print_offers.Goals as goal
 
 pub unreachable-requires : goal.unreachable-requires
-unreachable-requires g c = c.in-default.not-Ok _ (c.write.ensures.answer ∙ ap (λ o. o.answer) (rows_written c.args.offers.now c.rows_of-rows.result c.args.out.now.sheet.now c.rows_of-rows.ensures.rows c.requires.1 c.requires.4))
+unreachable-requires g c = c.in_default.not-Ok _ (c.write.ensures.answer ∙ ap (λ o. o.answer) (rows_written c.args.offers.now c.rows_of-rows.result c.args.out.now.sheet.now c.rows_of-rows.ensures.rows c.requires.1 c.requires.4))
 
 pub returns : goal.returns
 returns g c =

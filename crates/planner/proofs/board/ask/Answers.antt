@@ -44,7 +44,7 @@ returns g c =
     let q = c.args.question.now in
     let f = fare_over t measure stops in
     let m : Memory (FareState g.row.F-Ticket.Denot g.row.M-Weight.Denot) = record { labels = c.args.store.now.labels.now; written = c.args.store.now.used; aboard = c.args.aboard.now; sheet = c.args.out.now.sheet.now; legs = c.args.out.now.legs.now } in
-    let none : fault_of q stops paths hops (length m.sheet) (length m.legs) ≡ None = sym c.in-default.ensures in
+    let none : fault_of q stops paths hops (length m.sheet) (length m.legs) ≡ None = sym c.in_default.ensures in
     let o = scanned f q.destination m (scan_for f hops paths q m.labels m.aboard) in
     let e : o ≡ asked f hops stops paths q m = sym (ap (λ x. unless x m o) none) in
     let low : (s : FareState g.row.F-Ticket.Denot g.row.M-Weight.Denot) → f.price s < price_bound = λ s. omega (arith, g.met.F.Tariff.priced c.args.board.now.tariff.now s.ticket) in

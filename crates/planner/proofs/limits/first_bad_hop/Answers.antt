@@ -8,8 +8,8 @@ use Rattle.planner.proofs.limits.first_bad_hop.Goals as goal
 pub loop-place-init : goal.loop-place-init
 loop-place-init g c = refl
 
-pub loop-place-preserved-in-default : goal.loop-place-preserved-in-default
-loop-place-preserved-in-default g c = absurd (hop_missed (g.T.Timetable.hops c.args.timetable.now) c.loop-place.place c.count-count.result c.count-count.ensures c.loop-place-test.true c.hop.result c.hop.ensures c.in-default.is)
+pub loop-place-preserved-in_default : goal.loop-place-preserved-in_default
+loop-place-preserved-in_default g c = absurd (hop_missed (g.T.Timetable.hops c.args.timetable.now) c.loop-place.place c.count-count.result c.count-count.ensures c.loop-place-test.true c.hop.result c.hop.ensures c.in_default.is)
 
 pub returns-then-not-is_hop_within : goal.returns-then-not-is_hop_within
 returns-then-not-is_hop_within g c =

@@ -27,7 +27,7 @@ returns g c =
     let f = g.F.Fare.model c.args.fare.now in
     let ls = c.args.labels.now in
     let dest = c.args.destination in
-    let e = pick_end f dest ls c.loop-offer.bound (sym c.in-default.ensures) in
+    let e = pick_end f dest ls c.loop-offer.bound (sym c.in_default.ensures) in
     record {
       count = selected_count (best_offers f dest ls) c.args.offers.now (below f dest ls c.loop-offer.bound) c.loop-offer.count c.loop-offer.offers c.loop-offer.invariant.0 e;
       written = selected_all (best_offers f dest ls) c.args.offers.now (below f dest ls c.loop-offer.bound) c.loop-offer.count c.loop-offer.offers c.loop-offer.invariant.0 e;

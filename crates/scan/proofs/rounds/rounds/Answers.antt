@@ -23,9 +23,9 @@ loop-place-init g c =
     pass_begins (g.F.Fare.model c.args.fare.now) c.loop-round.labels c.loop-round.aboard (g.T.Timetable.hops c.args.timetable.now) c.loop-round.round c.loop-round.used
     (scanned_fit _ _ _ _ _ c.loop-round.invariant).0
 
-pub loop-place-preserved-in-default : goal.loop-place-preserved-in-default
-loop-place-preserved-in-default g c =
-    absurd (hop_missed (g.T.Timetable.hops c.args.timetable.now) c.loop-round.round c.loop-place.place c.hops_in_round-last.result c.hops_in_round-last.ensures c.loop-place-test.true c.hop.result c.hop.ensures c.in-default.is)
+pub loop-place-preserved-in_default : goal.loop-place-preserved-in_default
+loop-place-preserved-in_default g c =
+    absurd (hop_missed (g.T.Timetable.hops c.args.timetable.now) c.loop-round.round c.loop-place.place c.hops_in_round-last.result c.hops_in_round-last.ensures c.loop-place-test.true c.hop.result c.hop.ensures c.in_default.is)
 
 pub loop-place-preserved-then-not-hop : goal.loop-place-preserved-then-not-hop
 loop-place-preserved-then-not-hop g c =
@@ -149,8 +149,8 @@ returns·2 g c =
     let last : k ≡ c.args.limit = omega (arith, c.loop-round-test.true) in
     subst (λ (n : ℕ). Scanned c.args.labels.now c.loop-walker.labels c.loop-place.aboard (Ok (record { used = c.loop-walker.used; count = c.loop-place.count; trip = c.loop-place.trip })) (rounds f (record { labels = length c.args.labels.now; aboard = length c.args.aboard.now }) hs paths s0 (n + 1))) last done
 
-pub returns-in-default-board : goal.returns-in-default-board
-returns-in-default-board g c =
+pub returns-in_default-board : goal.returns-in_default-board
+returns-in_default-board g c =
     let f = g.F.Fare.model c.args.fare.now in
     let hs = g.T.Timetable.hops c.args.timetable.now in
     let k = c.loop-round.round in
@@ -164,12 +164,12 @@ returns-in-default-board g c =
     let fits = (scanned_fit _ _ _ _ _ c.loop-place.invariant).0 in
     let e = hop_read hs k i c.hops_in_round-last.result c.hops_in_round-last.ensures c.loop-place-test.true h c.hop.result c.hop.ensures c.in-Some.is in
     let t = boarder_turn f k i h store old c.loop-boarder.aboard new c.loop-place.used c.loop-boarder.boarder c.loop-boarder.count c.kept_count-count.result c.board.result c.index-labels-boarder.result fits c.loop-boarder-test.true c.loop-boarder.auto.aboard c.loop-boarder.invariant.0 c.board.ensures in
-    let out = boarding_out f k i h store old new c.loop-place.used c.loop-boarder.boarder c.kept_count-count.result (count_kept c.loop-place.trip c.loop-place.count h) c.kept_count-count.ensures (written_as c.in-default-board.is t) in
+    let out = boarding_out f k i h store old new c.loop-place.used c.loop-boarder.boarder c.kept_count-count.result (count_kept c.loop-place.trip c.loop-place.count h) c.kept_count-count.ensures (written_as c.in_default-board.is t) in
     let stop = read_turn f c.loop-round.labels store store c.loop-round.aboard old new hs k i h (stage_in c.loop-round.labels c.loop-round.aboard (record { used = c.loop-round.used; count = 0; trip = 0 })) at (Err (Aboard i)) c.loop-place.auto.labels c.loop-place.auto.aboard e c.loop-place.invariant (hop_no_seat f store old at k i h fits new c.if-not-hop.false out) in
     ends_passing f hs c.args.paths.now c.args.labels.now c.loop-round.labels c.args.aboard.now c.loop-round.aboard (stage_in c.args.labels.now c.args.aboard.now (record { used = c.args.written; count = 0; trip = 0 })) k begun c.loop-round.auto.labels c.loop-round.auto.aboard c.loop-round.invariant store new (Aboard i) (i + 1) (c.args.limit + 1) (omega (arith, c.loop-place-test.true, c.hops_in_round-last.ensures)) (omega (arith, c.loop-round-test.true)) stop
 
-pub returns-in-default-alight_all : goal.returns-in-default-alight_all
-returns-in-default-alight_all g c =
+pub returns-in_default-alight_all : goal.returns-in_default-alight_all
+returns-in_default-alight_all g c =
     let f = g.F.Fare.model c.args.fare.now in
     let hs = g.T.Timetable.hops c.args.timetable.now in
     let k = c.loop-round.round in
@@ -184,11 +184,11 @@ returns-in-default-alight_all g c =
     let at : Progress = record { used = c.loop-place.used; count = c.loop-place.count; trip = c.loop-place.trip } in
     let e = hop_read hs k i c.hops_in_round-last.result c.hops_in_round-last.ensures c.loop-place-test.true h c.hop.result c.hop.ensures c.in-Some.is in
     let all = all_boarded f k i h store old one c.loop-place.used c.loop-boarder.boarder c.loop-boarder.count c.kept_count-count.result (count_kept c.loop-place.trip c.loop-place.count h) c.kept_count-count.ensures c.loop-boarder-test.false c.loop-boarder.invariant.0 in
-    let stop = read_turn f c.loop-round.labels store new c.loop-round.aboard old two hs k i h (stage_in c.loop-round.labels c.loop-round.aboard (record { used = c.loop-round.used; count = 0; trip = 0 })) at (Err Store) c.loop-place.auto.labels c.loop-place.auto.aboard e c.loop-place.invariant (hop_no_room f store old at k i h (scanned_fit _ _ _ _ _ c.loop-place.invariant).0 one two new c.loop-boarder.count c.if-not-hop.false all c.ride_all.ensures (written_as c.in-default-alight_all.is c.alight_all.ensures)) in
+    let stop = read_turn f c.loop-round.labels store new c.loop-round.aboard old two hs k i h (stage_in c.loop-round.labels c.loop-round.aboard (record { used = c.loop-round.used; count = 0; trip = 0 })) at (Err Store) c.loop-place.auto.labels c.loop-place.auto.aboard e c.loop-place.invariant (hop_no_room f store old at k i h (scanned_fit _ _ _ _ _ c.loop-place.invariant).0 one two new c.loop-boarder.count c.if-not-hop.false all c.ride_all.ensures (written_as c.in_default-alight_all.is c.alight_all.ensures)) in
     ends_passing f hs c.args.paths.now c.args.labels.now c.loop-round.labels c.args.aboard.now c.loop-round.aboard (stage_in c.args.labels.now c.args.aboard.now (record { used = c.args.written; count = 0; trip = 0 })) k begun c.loop-round.auto.labels c.loop-round.auto.aboard c.loop-round.invariant new two Store (i + 1) (c.args.limit + 1) (omega (arith, c.loop-place-test.true, c.hops_in_round-last.ensures)) (omega (arith, c.loop-round-test.true)) stop
 
-pub returns-in-default-walk : goal.returns-in-default-walk
-returns-in-default-walk g c =
+pub returns-in_default-walk : goal.returns-in_default-walk
+returns-in_default-walk g c =
     let f = g.F.Fare.model c.args.fare.now in
     let hs = g.T.Timetable.hops c.args.timetable.now in
     let paths = c.args.paths.now in
@@ -202,7 +202,7 @@ returns-in-default-walk g c =
     let begun : Progress = record { used = c.loop-round.used; count = c.loop-round.count; trip = c.loop-round.trip } in
     let at : Progress = record { used = c.loop-place.used; count = c.loop-place.count; trip = c.loop-place.trip } in
     let fits = (scanned_fit _ _ _ _ _ c.loop-place.invariant).0 in
-    let t = written_as c.in-default-walk.is (walk_turn f mid c.loop-path.labels new paths c.loop-path.path c.loop-path.used c.loop-walker.used j x c.walk.result c.loop-path.auto.labels c.loop-path-test.true c.loop-path.invariant.0 c.walk.ensures) in
+    let t = written_as c.in_default-walk.is (walk_turn f mid c.loop-path.labels new paths c.loop-path.path c.loop-path.used c.loop-walker.used j x c.walk.result c.loop-path.auto.labels c.loop-path-test.true c.loop-path.invariant.0 c.walk.ensures) in
     let o = written_out (walk f (length mid) j x) (walk_longer f (length mid) j x) mid new paths (c.loop-path.path + 1) (take c.loop-walker.used mid) t in
     let u = written_fresh f mid new c.loop-walker.used None paths k j x (sym c.is_fresh.ensures ∙ c.if-not-is_fresh.false) o in
     let v = foot_next f here mid new paths k j c.loop-walker.used reached x None fits c.loop-walker-test.true c.loop-walker.auto.labels c.loop-walker.invariant.2 c.index-labels-walker.is c.loop-walker.invariant.0 u in

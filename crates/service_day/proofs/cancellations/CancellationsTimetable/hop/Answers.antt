@@ -5,10 +5,10 @@ use Rattle.service_day.specs.Layers.{cancelled_in}
 use Rattle.service_day.proofs.LayerAnswers.{hop_changed}
 use Rattle.service_day.proofs.cancellations.CancellationsTimetable.hop.Goals as goal
 
-pub returns-in-default : goal.returns-in-default
-returns-in-default g c =
+pub returns-in_default : goal.returns-in_default
+returns-in_default g c =
     let off = cancelled_in c.args.self.now in
-    hop_changed (cancelled_by off) (g.T.Timetable.hops c.args.self.now.below) c.args.place None (sym c.in-default.is ∙ c.hop.ensures)
+    hop_changed (cancelled_by off) (g.T.Timetable.hops c.args.self.now.below) c.args.place None (sym c.in_default.is ∙ c.hop.ensures)
 
 pub returns-then-is_cancelled : goal.returns-then-is_cancelled
 returns-then-is_cancelled g c =

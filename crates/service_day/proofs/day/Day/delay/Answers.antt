@@ -1,4 +1,4 @@
-use Rattle.std.proofs.Common.{◌≡◌, ℕ, ap, ◌∙◌}
+use Rattle.std.proofs.Common.{ℕ, ap, ◌∙◌}
 use Rattle.service_day.specs.Days.{delaying}
 use Rattle.service_day.specs.Layers.{base, cancelled_in, delay_in}
 use Rattle.service_day.specs.Refusals.{told, left}

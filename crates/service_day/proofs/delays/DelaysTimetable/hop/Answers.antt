@@ -4,10 +4,10 @@ use Rattle.service_day.specs.Layers.{delay_in}
 use Rattle.service_day.proofs.LayerAnswers.{hop_changed, answered_fit}
 use Rattle.service_day.proofs.delays.DelaysTimetable.hop.Goals as goal
 
-pub returns-in-default : goal.returns-in-default
-returns-in-default g c =
+pub returns-in_default : goal.returns-in_default
+returns-in_default g c =
     let late = delay_in c.args.self.now in
-    hop_changed (delayed_by late) (g.T.Timetable.hops c.args.self.now.below) c.args.place None (sym c.in-default.is ∙ c.hop.ensures)
+    hop_changed (delayed_by late) (g.T.Timetable.hops c.args.self.now.below) c.args.place None (sym c.in_default.is ∙ c.hop.ensures)
 
 pub moved-requires : goal.moved-requires
 moved-requires g c =

@@ -5,7 +5,7 @@ use Rattle.service_day.specs.Refusals.{told, left}
 use Rattle.service_day.specs.Tables.{itself, tidy, trip_numbers}
 use Rattle.service_day.proofs.Listings.{in_part, room_test, full_test, put_in_place, put_behind}
 use Rattle.service_day.proofs.Members.{still_tidy_with}
-use Rattle.service_day.proofs.Outcomes.{is_number, no_trip, cancel_full, cancel_done, put_listed}
+use Rattle.service_day.proofs.Outcomes.{is_number, cancel_full, cancel_done, put_listed}
 use Rattle.service_day.proofs.layers.Cancellations.cancel.Goals as goal
 
 pub returns-then-place-ge-MOST_LISTED : goal.returns-then-place-ge-MOST_LISTED
@@ -21,20 +21,22 @@ invariant_of-self g c =
     let table = c.args.self.now in
     let trip = c.args.trip in
     let at = in_part itself trip table.trips table.used _ c.place_of-place.ensures in
-    let known : trip < trip_numbers = is_number (g.T.Timetable.hops table.below) c.trips.result trip c.trips.ensures c.if-trip-trips.false in (
-      omega arith,
-      (subst (λ l. tidy itself l ≡ true) (sym (put_behind itself trip table.trips table.used c.place_of-place.result (omega arith) at c.if-place-used.true (omega arith))) (still_tidy_with itself trip (trips_listed table) known table.tidy), tt),
-    )
+    let known : trip < trip_numbers = is_number (g.T.Timetable.hops table.below) c.trips.result trip c.trips.ensures c.if-trip-trips.false in
+    record {
+      fits = omega arith;
+      tidy = subst (λ l. tidy itself l ≡ true) (sym (put_behind itself trip table.trips table.used c.place_of-place.result (omega arith) at c.if-place-used.true (omega arith))) (still_tidy_with itself trip (trips_listed table) known table.tidy);
+    }
 
 pub invariant_of-self-else-place-used : goal.invariant_of-self-else-place-used
 invariant_of-self-else-place-used g c =
     let table = c.args.self.now in
     let trip = c.args.trip in
     let at = in_part itself trip table.trips table.used _ c.place_of-place.ensures in
-    let known : trip < trip_numbers = is_number (g.T.Timetable.hops table.below) c.trips.result trip c.trips.ensures c.if-trip-trips.false in (
-      table.fits,
-      (subst (λ l. tidy itself l ≡ true) (sym (put_in_place itself trip table.trips table.used c.place_of-place.result (omega arith) at c.if-place-used.false)) (still_tidy_with itself trip (trips_listed table) known table.tidy), tt),
-    )
+    let known : trip < trip_numbers = is_number (g.T.Timetable.hops table.below) c.trips.result trip c.trips.ensures c.if-trip-trips.false in
+    record {
+      fits = table.fits;
+      tidy = subst (λ l. tidy itself l ≡ true) (sym (put_in_place itself trip table.trips table.used c.place_of-place.result (omega arith) at c.if-place-used.false)) (still_tidy_with itself trip (trips_listed table) known table.tidy);
+    }
 
 pub returns-then-place-used : goal.returns-then-place-used
 returns-then-place-used g c =

@@ -1,4 +1,4 @@
-use Rattle.std.proofs.Common.{◌≡◌, ◌-◌, length, take, ap, ◌∙◌, arith}
+use Rattle.std.proofs.Common.{◌≡◌, ◌-◌, length, take, arith}
 use Rattle.service_day.specs.Tables.{itself}
 use Rattle.service_day.proofs.Listings.{listed_test, in_part}
 use Rattle.service_day.proofs.layers.Cancellations.is_cancelled.Goals as goal

@@ -9,10 +9,11 @@ use Rattle.service_day.proofs.layers.Cancellations.reinstate.Goals as goal
 
 pub invariant_of-self : goal.invariant_of-self
 invariant_of-self g c =
-    let table = c.args.self.now in (
-      omega (arith, c.strike-self.ensures.fewer),
-      (subst (λ l. tidy itself l ≡ true) (sym c.strike-self.ensures.rest) (still_tidy_without itself c.args.trip (trips_listed table) table.tidy), tt),
-    )
+    let table = c.args.self.now in
+    record {
+      fits = omega (arith, c.strike-self.ensures.fewer);
+      tidy = subst (λ l. tidy itself l ≡ true) (sym c.strike-self.ensures.rest) (still_tidy_without itself c.args.trip (trips_listed table) table.tidy);
+    }
 
 pub returns : goal.returns
 returns g c =
