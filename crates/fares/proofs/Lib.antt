@@ -1,4 +1,2 @@
 pub mod SameReadings
-pub mod LadderLaws
-pub mod SurchargeLaws
 pub mod KeepingCovering

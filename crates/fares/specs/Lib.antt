@@ -7,3 +7,5 @@ pub mod FareStates
 pub mod Refusals
 pub mod Ladders
 pub mod Surcharges
+pub mod LadderLaws
+pub mod SurchargeLaws

@@ -2,7 +2,7 @@ ghost use Rattle.std.specs.Prelude.{◌≡◌, ◌≤◌};
 ghost use Rattle.fares.specs.Ladders.{ladder_opened, ladder_model};
 ghost use Rattle.fares.specs.Limits.{top_first, top_step};
 ghost use Rattle.fares.specs.Refusals.{meant};
-ghost use Rattle.std.proofs.Common.{rules, arith};
+ghost use Rattle.fares.specs.LadderLaws.{ladder_priced, ladder_laws};
 
 use crate::gauges::Gauges;
 use crate::refusal::Refusal;
@@ -38,7 +38,7 @@ impl Tariff for Ladder {
 
     ghost model = { λ t. ladder_model t.first t.step };
 
-    ghost priced = { first_of (Prim.search rules, Prim.grind (arith, Self.row.coded.inj)) };
+    ghost priced = { λ t. ladder_priced t.first t.step t.within.0 t.within.1 };
 
     fn start(&self, class: u8) -> u8 {
         0
@@ -58,5 +58,5 @@ impl Tariff for Ladder {
 }
 
 impl LawfulTariff for Ladder {
-    ghost lawful = { first_of (Prim.search rules, Prim.grind (arith, Self.row.coded.inj)) };
+    ghost lawful = { λ t. ladder_laws t.first t.step };
 }

@@ -2,7 +2,7 @@ ghost use Rattle.std.specs.Prelude.{◌≡◌, ◌≤◌};
 ghost use Rattle.fares.specs.Limits.{first_marking_event, top_event, least_extra, top_extra};
 ghost use Rattle.fares.specs.Refusals.{meant};
 ghost use Rattle.fares.specs.Surcharges.{surcharge_opened, surcharge_model};
-ghost use Rattle.std.proofs.Common.{rules, arith};
+ghost use Rattle.fares.specs.SurchargeLaws.{surcharge_priced, surcharge_laws};
 
 use crate::gauges::Gauges;
 use crate::refusal::Refusal;
@@ -51,7 +51,7 @@ impl<T: Tariff> Tariff for Surcharge<T> {
 
     ghost model = { λ t. surcharge_model t.event t.extra (T.Tariff.model t.below) };
 
-    ghost priced = { first_of (Prim.search rules, Prim.grind (arith, Self.row.coded.inj)) };
+    ghost priced = { λ t. surcharge_priced t.event t.extra (T.Tariff.model t.below) (T.Tariff.priced t.below) };
 
     fn start(&self, class: u8) -> Marked<T::Ticket> {
         Marked {
@@ -82,5 +82,5 @@ impl<T: Tariff> Tariff for Surcharge<T> {
 }
 
 impl<T: LawfulTariff> LawfulTariff for Surcharge<T> {
-    ghost lawful = { first_of (Prim.search rules, Prim.grind (arith, Self.row.coded.inj)) };
+    ghost lawful = { λ t. surcharge_laws t.event t.extra (T.Tariff.model t.below) (T.Tariff.priced t.below) (T.LawfulTariff.lawful t.below) };
 }

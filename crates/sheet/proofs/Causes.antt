@@ -1,5 +1,5 @@
 -- Each refusal has its cause, each cause its refusal, and no two causes stand at once.
-use Rattle.std.proofs.Common.{◌≡◌, ℕ, ◌<◌, ◌≤◌, Bool, true, false, cond, ltb, List, [], ◌∷◌, length, Some, None, Ok, Err, Option, Result, sym, refl, ap, ◌∙◌, subst, arith}
+use Rattle.std.proofs.Common.{◌≡◌, ℕ, ◌<◌, ◌≤◌, Bool, true, false, cond, ltb, List, [], length, Some, None, Ok, Err, Option, Result, sym, refl, ap, ◌∙◌, subst, arith}
 use Rattle.std.proofs.lemmas.Bool.{lt-ltb, le-ltb, ltb-true, ltb-false, cond-true, cond-false}
 use Rattle.sheet.specs.declared.rows.Row.{Row}
 use Rattle.sheet.specs.declared.refusals.Refusal.{Refusal}
@@ -9,9 +9,9 @@ use Rattle.sheet.specs.Format.{sheet_bytes}
 use Rattle.sheet.specs.Reading.{decode}
 use Rattle.sheet.specs.Refusals.{Cause, cause}
 use Rattle.sheet.specs.Outcome.{faulted, write_refusal}
-use Rattle.sheet.specs.Promise.{BadRow, NotWritten, NotRead, NotSheet, Only, Never, Checked, short_sheet, many_rows, bad_row, few_rows, no_sheet}
+use Rattle.sheet.specs.Promise.{NotWritten, NotRead, Only, Never, Checked, short_sheet, many_rows, bad_row, few_rows, no_sheet}
 use Rattle.sheet.proofs.Chains.{chain_from_no_fault, good_from_chain}
-use Rattle.sheet.proofs.Faults.{fault_is_bad, fault_at, Why, why_refused, refused_for}
+use Rattle.sheet.proofs.Faults.{fault_is_bad, fault_at, why_refused, refused_for}
 
 -- Writing.
 

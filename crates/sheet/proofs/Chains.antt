@@ -1,9 +1,9 @@
 -- Rows that fit one after another, and what that says of them in the words of `Good`.
-use Rattle.std.proofs.Common.{◌≡◌, ℕ, ◌+◌, ◌<◌, ◌≤◌, Bool, true, false, cond, ◌&&◌, ltb, leb, List, [], ◌∷◌, length, Some, None, Option, sym, refl, ap, ◌∙◌, ⊎_elim, arith}
+use Rattle.std.proofs.Common.{◌≡◌, ℕ, ◌+◌, ◌<◌, ◌≤◌, true, ltb, leb, List, [], ◌∷◌, length, Some, None, Option, sym, refl, ◌∙◌, ⊎_elim, arith}
 use Rattle.std.specs.List.{AllByRecursion as All}
-use Rattle.std.proofs.lemmas.Bool.{ltb-true, lt-ltb, leb-true, le-leb, and_from, and_parts, cases_Bool, cond-true, cond-false}
+use Rattle.std.proofs.lemmas.Bool.{ltb-true, lt-ltb, le-leb, and_from, and_parts, cases_Bool, cond-true, cond-false}
 use Rattle.sheet.specs.declared.rows.Row.{Row}
-use Rattle.sheet.specs.Rows.{most_rows, last_arrival, top_price, InRange, Follows, Ordered, Good, within_range, following, fits, fault_from, first_fault}
+use Rattle.sheet.specs.Rows.{most_rows, last_arrival, top_price, InRange, Follows, Ordered, Good, within_range, following, fits, fault_from}
 use Rattle.sheet.proofs.Packing.{in_range_true}
 
 abbrev pub Chain : Option Row → List Row → Type 0

@@ -1,5 +1,5 @@
 -- What is refused is no sheet, or holds a row that cannot stand where it does; and whatever is such is refused.
-use Rattle.std.proofs.Common.{◌≡◌, ℕ, zero, suc, ◌+◌, ◌-◌, ◌<◌, ◌≤◌, Bool, true, false, cond, leb, ◌⊎◌, List, [], ◌∷◌, ◌++◌, length, Some, None, Ok, Err, Option, Result, sym, refl, ap, ◌∙◌, subst, inl, inr, ⊎_elim, append_assoc, zero-add, arith, length-append}
+use Rattle.std.proofs.Common.{◌≡◌, ℕ, zero, suc, ◌+◌, ◌-◌, ◌<◌, ◌≤◌, true, false, leb, ◌⊎◌, List, [], ◌∷◌, ◌++◌, length, Some, None, Ok, Err, Option, Result, sym, refl, ap, ◌∙◌, subst, inl, inr, ⊎_elim, append_assoc, zero-add, arith, length-append}
 use Rattle.std.specs.List.{flat_map}
 use Rattle.std.proofs.lemmas.Bool.{both_ways, leb-true, leb-false, le-leb, lt-leb, cases_Bool, cond-true, cond-false, cond_both}
 use Rattle.sheet.specs.declared.rows.Row.{Row}
@@ -8,7 +8,7 @@ use Rattle.sheet.specs.declared.refusals.Refusal.TheVariants.{NoRow, NoSheet}
 use Rattle.sheet.specs.Rows.{most_rows, Good, fits, fault_from, first_fault}
 use Rattle.sheet.specs.Format.{encode_row, encode}
 use Rattle.sheet.specs.Reading.{decode_row, row_first, rows_from, decode_rows, decode}
-use Rattle.sheet.specs.Refusals.{Cause, cause}
+use Rattle.sheet.specs.Refusals.{cause}
 use Rattle.sheet.specs.Promise.{NoRowNext, NotSheet, BadRow, no_count, high_count, left_over, no_row}
 use Rattle.sheet.proofs.Packing.{RowRead, decode_row_encode, decode_row_sound}
 use Rattle.sheet.proofs.Chains.{Chain, chain_from_good, good_from_chain}

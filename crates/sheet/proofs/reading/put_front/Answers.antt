@@ -18,6 +18,6 @@ module _ (rows found front : List Row) (count : ℕ) (within : count ≤ length 
 
 pub returns : goal.returns
 returns c = record {
-  left = fronted c.args.rows.now c.args.found.now c.copy-from-slice.new.self c.args.count c.requires.found c.copy-from-slice.ensures.after;
-  front = in-front c.args.rows.now c.args.found.now c.copy-from-slice.new.self c.args.count c.requires.found c.copy-from-slice.ensures.after;
+  left = fronted c.args.rows.now c.args.found.now c.copy_from_slice.new.self c.args.count c.requires.found c.copy_from_slice.ensures.after;
+  front = in-front c.args.rows.now c.args.found.now c.copy_from_slice.new.self c.args.count c.requires.found c.copy_from_slice.ensures.after;
 }

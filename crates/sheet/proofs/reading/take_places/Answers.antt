@@ -1,13 +1,13 @@
-use Rattle.std.proofs.Common.{◌≡◌, ℕ, ◌+◌, ◌-◌, ◌/◌, ◌<◌, ◌≤◌, ◌≢◌, List, length, get_or, take, drop, set, sym, refl, ap, ◌∙◌, arith, length-set, Bor}
+use Rattle.std.proofs.Common.{◌≡◌, ℕ, ◌+◌, ◌-◌, ◌/◌, ◌<◌, ◌≢◌, List, length, get_or, take, drop, ap, ◌∙◌, arith, length-set, Bor}
 use Rattle.std.proofs.lemmas.Bool.{ltb-true, ltb-false}
 use Rattle.sheet.specs.Reading.{after, spread, bits}
 use Rattle.std.proofs.lemmas.List.{get_or-set_other, take_rest}
 use Rattle.sheet.proofs.Packing.{stop_short, stop_zero, turn_clear, turn_byte, all_places}
 use Rattle.sheet.proofs.reading.take_places.Goals as goal
-use Rattle.sheet.proofs.reading.take_places.Goals.{then-left-eq1+in-len1-up+else-byte-eq0, else_left_eq1}
+use Rattle.sheet.proofs.reading.take_places.Goals.{then-left-eq1+in-len1-up+else-byte-eq0, else-left-eq1}
 
-pub returns-in-default : goal.returns-in-default
-returns-in-default c =
+pub returns-in_default : goal.returns-in_default
+returns-in_default c =
     stop_short _ c.loop-place.places c.loop-place.rest.now c.loop-place.place c.loop-place.left c.loop-place-test.true c.loop-place.invariant.1 c.if-left-eq1.true (omega (arith, ltb-true, ltb-false))
 
 pub returns-then-byte-eq0 : goal.returns-then-byte-eq0
@@ -30,7 +30,7 @@ loop-place-preserved c =
                 ∙ turn_byte _ places rest place c.loop-place.left c.loop-place-test.true inv.1 inv.0 w.if-left-eq1.true some w.if-byte-eq0.false small,
             λ k le. let ne : k ≢ place = omega arith in ap (λ l. get_or l k 0) w.places-is ∙ get_or-set_other places place k (get_or rest 0 0) 0 ne ∙ inv.2 k (omega arith),
           ))
-      | else_left_eq1 w ↦ (
+      | else-left-eq1 w ↦ (
         ap length w.places-is ∙ inv.0,
         (λ i. after (take (place + 1) (w.places-is i)) (spread (bits (6 - (place + 1)) (c.loop-place.left / 2)) (w.rest-is i).now))
             ∙ turn_clear _ places rest place c.loop-place.left c.loop-place-test.true inv.1 inv.0 (inv.2 place (omega arith)) w.if-left-eq1.false,

@@ -18,25 +18,25 @@ module _ (rows : List Row) (room : ℕ) where
   by_row : sheet_bytes ≤ room → length rows ≤ most_rows → (fault : Option ℕ) → fault ≡ first_fault rows → faulted fault ≡ write_refusal rows room
   by_row enough few fault is = sym (cond-false _ _ _ (le-ltb room sheet_bytes enough) ∙ cond-false _ _ _ (le-ltb most_rows (length rows) few) ∙ ap faulted (sym is))
 
-pub returns-then-room-lt-SHEET-BYTES : goal.returns-then-room-lt-SHEET-BYTES
-returns-then-room-lt-SHEET-BYTES c =
-    let e = too_short c.args.rows.now c.args.room c.if-room-lt-SHEET-BYTES.true in
+pub returns-then-room-lt-SHEET_BYTES : goal.returns-then-room-lt-SHEET_BYTES
+returns-then-room-lt-SHEET_BYTES c =
+    let e = too_short c.args.rows.now c.args.room c.if-room-lt-SHEET_BYTES.true in
     record { refusal = e; reason = checked c.args.rows.now c.args.room _ e }
 
-pub returns-then-not-is-count : goal.returns-then-not-is-count
-returns-then-not-is-count c =
-    let e = too_many c.args.rows.now c.args.room c.if-room-lt-SHEET-BYTES.false (leb-false (length c.args.rows.now) most_rows (sym c.if-not-is-count.ensures)) in
+pub returns-then-not-is_count : goal.returns-then-not-is_count
+returns-then-not-is_count c =
+    let e = too_many c.args.rows.now c.args.room c.if-room-lt-SHEET_BYTES.false (leb-false (length c.args.rows.now) most_rows (sym c.if-not-is_count.ensures)) in
     record { refusal = e; reason = checked c.args.rows.now c.args.room _ e }
 
 pub returns-in-Some : goal.returns-in-Some
 returns-in-Some c =
-    let e = by_row c.args.rows.now c.args.room c.if-room-lt-SHEET-BYTES.false (leb-true (length c.args.rows.now) most_rows (sym c.if-not-is-count.ensures)) (Some c.in-Some.row) c.in-Some.ensures in
+    let e = by_row c.args.rows.now c.args.room c.if-room-lt-SHEET_BYTES.false (leb-true (length c.args.rows.now) most_rows (sym c.if-not-is_count.ensures)) (Some c.in-Some.row) c.in-Some.ensures in
     record { refusal = e; reason = checked c.args.rows.now c.args.room _ e }
 
 pub returns-in-None : goal.returns-in-None
 returns-in-None c =
-    let e = by_row c.args.rows.now c.args.room c.if-room-lt-SHEET-BYTES.false (leb-true (length c.args.rows.now) most_rows (sym c.if-not-is-count.ensures)) None c.in-None.ensures in
+    let e = by_row c.args.rows.now c.args.room c.if-room-lt-SHEET_BYTES.false (leb-true (length c.args.rows.now) most_rows (sym c.if-not-is_count.ensures)) None c.in-None.ensures in
     record { refusal = e; reason = checked c.args.rows.now c.args.room _ e }
 
-pub find-fault-requires : goal.find-fault-requires
-find-fault-requires c = leb-true (length c.args.rows.now) most_rows (sym c.if-not-is-count.ensures)
+pub find_fault-requires : goal.find_fault-requires
+find_fault-requires c = leb-true (length c.args.rows.now) most_rows (sym c.if-not-is_count.ensures)

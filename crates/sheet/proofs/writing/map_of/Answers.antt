@@ -1,4 +1,4 @@
-use Rattle.std.proofs.Common.{◌≡◌, ℕ, ◌+◌, ◌-◌, ◌<◌, ◌≤◌, List, ◌∷◌, length, get_or, drop, sym, refl, ap, ◌∙◌, arith, length-drop}
+use Rattle.std.proofs.Common.{◌≡◌, ℕ, ◌+◌, ◌-◌, ◌<◌, ◌≤◌, List, length, get_or, drop, sym, ap, ◌∙◌, arith, length-drop}
 use Rattle.std.proofs.lemmas.List.{drop_all, drop_more}
 use Rattle.sheet.specs.Format.{bit_set_in, map_of}
 use Rattle.sheet.proofs.Packing.{map_of_small}
@@ -16,8 +16,8 @@ small bytes place m six is = omega (arith, map_of_small (drop place bytes) (omeg
 pub loop-place-init : goal.loop-place-init
 loop-place-init c = sym (ap map_of (drop_all 6 c.args.bytes.now (omega arith)))
 
-pub with-bit-map-requires : goal.with-bit-map-requires
-with-bit-map-requires c = small c.args.bytes.now c.loop-place.place c.loop-place.map c.told-bytes c.loop-place.invariant
+pub with_bit-map-requires : goal.with_bit-map-requires
+with_bit-map-requires c = small c.args.bytes.now c.loop-place.place c.loop-place.map c.told-bytes c.loop-place.invariant
 
 pub loop-place-preserved : goal.loop-place-preserved
-loop-place-preserved c = c.with-bit-map.ensures ∙ turn c.args.bytes.now c.loop-place.place c.loop-place.map c.loop-place-test.true (omega arith) c.loop-place.invariant
+loop-place-preserved c = c.with_bit-map.ensures ∙ turn c.args.bytes.now c.loop-place.place c.loop-place.map c.loop-place-test.true (omega arith) c.loop-place.invariant

@@ -1,12 +1,12 @@
-use Rattle.std.proofs.Common.{◌≡◌, ℕ, zero, suc, ◌+◌, ◌<◌, ◌≤◌, true, false, List, [], ◌∷◌, ◌++◌, length, get_or, take, set, sym, refl, ap, ◌∙◌, arith, length-append, length-set, length-take}
+use Rattle.std.proofs.Common.{◌≡◌, ℕ, zero, suc, ◌+◌, ◌<◌, ◌≤◌, true, false, List, [], ◌∷◌, ◌++◌, length, get_or, take, set, sym, refl, ap, ◌∙◌, arith, length-set, length-take}
 use Rattle.std.proofs.lemmas.List.{take_more, take_all, length_push}
 use Rattle.std.proofs.lemmas.Bool.{true≢false}
-use Rattle.sheet.specs.Format.{six, stands, map_of, standing, packed, encode_row}
+use Rattle.sheet.specs.Format.{stands, map_of, standing, packed, encode_row}
 use Rattle.sheet.specs.Outcome.{pasted}
 use Rattle.sheet.proofs.Packing.{standing_le}
 use Rattle.sheet.proofs.Pasting.{pasted_none, pasted_one, pasted_more, standing_push, standing_push_zero}
 use Rattle.sheet.proofs.writing.put_row.Goals as goal
-use Rattle.sheet.proofs.writing.put_row.Goals.{then_stands, else_stands}
+use Rattle.sheet.proofs.writing.put_row.Goals.{then-stands, else-stands}
 
 stands_some : (b : ℕ) → true ≡ stands b → b ≡ 0 → ⊥
 stands_some zero e z = true≢false e
@@ -24,10 +24,10 @@ pub loop-byte-init : goal.loop-byte-init
 loop-byte-init c = (omega arith, pasted_none (c.args.at + 1) _)
 
 pub bounds-sheet-end : goal.bounds-sheet-end
-bounds-sheet-end c = omega (arith, few c.loop-byte.byte-index c.six-bytes-bytes.result, length-set c.args.sheet.now c.args.at c.map-of.result)
+bounds-sheet-end c = omega (arith, few c.loop-byte.byte-index c.six_bytes-bytes.result, length-set c.args.sheet.now c.args.at c.map_of.result)
 
-pub overflow-add-end-then-stands : goal.overflow-add-end-then-stands
-overflow-add-end-then-stands c = omega (arith, few c.loop-byte.byte-index c.six-bytes-bytes.result, length-set c.args.sheet.now c.args.at c.map-of.result)
+pub overflow_add-end-then-stands : goal.overflow_add-end-then-stands
+overflow_add-end-then-stands c = omega (arith, few c.loop-byte.byte-index c.six_bytes-bytes.result, length-set c.args.sheet.now c.args.at c.map_of.result)
 
 -- one turn: `start` is the sheet as the loop began, and `sheet` as the turn begins
 module _ (bytes start sheet : List ℕ) (at end i : ℕ) (is : end ≡ at + 1 + length (standing (take i bytes))) (was : sheet ≡ pasted (at + 1) (standing (take i bytes)) start)
@@ -52,15 +52,15 @@ module _ (bytes start sheet : List ℕ) (at end i : ℕ) (is : end ≡ at + 1 + 
 
 pub loop-byte-preserved : goal.loop-byte-preserved
 loop-byte-preserved c =
-    let six_long : length c.six-bytes-bytes.result ≡ 6 = ap length c.six-bytes-bytes.ensures in
-    let start = set c.args.sheet.now c.args.at c.map-of.result in
+    let six_long : length c.six_bytes-bytes.result ≡ 6 = ap length c.six_bytes-bytes.ensures in
+    let start = set c.args.sheet.now c.args.at c.map_of.result in
     elim c.if-stands.branch [
-      | then_stands w ↦
-          (let room : c.loop-byte.end < length c.loop-byte.sheet = omega (arith, few c.loop-byte.byte-index c.six-bytes-bytes.result, length-set c.args.sheet.now c.args.at c.map-of.result) in
-          let turn = put c.six-bytes-bytes.result start c.loop-byte.sheet c.args.at c.loop-byte.end c.loop-byte.byte-index c.loop-byte.invariant.0 c.loop-byte.invariant.1 (omega arith) (stands_some (get_or c.six-bytes-bytes.result c.loop-byte.byte-index 0) w.if-stands.ensures) room c.loop-byte.auto.sheet in
+      | then-stands w ↦
+          (let room : c.loop-byte.end < length c.loop-byte.sheet = omega (arith, few c.loop-byte.byte-index c.six_bytes-bytes.result, length-set c.args.sheet.now c.args.at c.map_of.result) in
+          let turn = put c.six_bytes-bytes.result start c.loop-byte.sheet c.args.at c.loop-byte.end c.loop-byte.byte-index c.loop-byte.invariant.0 c.loop-byte.invariant.1 (omega arith) (stands_some (get_or c.six_bytes-bytes.result c.loop-byte.byte-index 0) w.if-stands.ensures) room c.loop-byte.auto.sheet in
           (w.end-is ∙ turn.0, w.sheet-is ∙ turn.1))
-      | else_stands w ↦
-          (let turn = skip c.six-bytes-bytes.result start c.loop-byte.sheet c.args.at c.loop-byte.end c.loop-byte.byte-index c.loop-byte.invariant.0 c.loop-byte.invariant.1 (omega arith) (stands_none (get_or c.six-bytes-bytes.result c.loop-byte.byte-index 0) w.if-stands.ensures) in
+      | else-stands w ↦
+          (let turn = skip c.six_bytes-bytes.result start c.loop-byte.sheet c.args.at c.loop-byte.end c.loop-byte.byte-index c.loop-byte.invariant.0 c.loop-byte.invariant.1 (omega arith) (stands_none (get_or c.six_bytes-bytes.result c.loop-byte.byte-index 0) w.if-stands.ensures) in
           (w.end-is ∙ turn.0, w.sheet-is ∙ turn.1))
     ]
 
@@ -74,14 +74,14 @@ whole bytes list sheet at end m is was map room six_long = (
 pub returns : goal.returns
 unfolding encode_row
 returns c =
-    let bytes_are = c.six-bytes-bytes.ensures in
-    let six_long : length c.six-bytes-bytes.result ≡ 6 = ap length bytes_are in
-    let all : take c.loop-byte.byte-index c.six-bytes-bytes.result ≡ c.six-bytes-bytes.result = take_all c.loop-byte.byte-index c.six-bytes-bytes.result (omega arith) in
-    let start = set c.args.sheet.now c.args.at c.map-of.result in
-    let done = whole c.six-bytes-bytes.result c.args.sheet.now c.loop-byte.sheet c.args.at c.loop-byte.end c.map-of.result
+    let bytes_are = c.six_bytes-bytes.ensures in
+    let six_long : length c.six_bytes-bytes.result ≡ 6 = ap length bytes_are in
+    let all : take c.loop-byte.byte-index c.six_bytes-bytes.result ≡ c.six_bytes-bytes.result = take_all c.loop-byte.byte-index c.six_bytes-bytes.result (omega arith) in
+    let start = set c.args.sheet.now c.args.at c.map_of.result in
+    let done = whole c.six_bytes-bytes.result c.args.sheet.now c.loop-byte.sheet c.args.at c.loop-byte.end c.map_of.result
     (c.loop-byte.invariant.0 ∙ ap (λ b. c.args.at + 1 + length (standing b)) all)
     (c.loop-byte.invariant.1 ∙ ap (λ b. pasted (c.args.at + 1) (standing b) start) all)
-    c.map-of.ensures c.requires six_long in
+    c.map_of.ensures c.requires six_long in
     record {
       end = done.0 ∙ ap (λ b. c.args.at + length (packed b)) bytes_are;
       left = done.1 ∙ ap (λ b. pasted c.args.at (packed b) c.args.sheet.now) bytes_are;

@@ -13,8 +13,8 @@ use Rattle.sheet.proofs.writing.put_sheet.Goals as goal
 few : (i : ℕ) (rows : List Row) → length (flat_map encode_row (take i rows)) ≤ 7 * i
 few i rows = omega (arith, joined_le (take i rows), length-take i rows)
 
-pub put-row-end-requires : goal.put-row-end-requires
-put-row-end-requires c = omega (arith, few c.loop-row.row-index c.args.rows.now, length-set c.args.sheet.now 0 (length c.args.rows.now))
+pub put_row-end-requires : goal.put_row-end-requires
+put_row-end-requires c = omega (arith, few c.loop-row.row-index c.args.rows.now, length-set c.args.sheet.now 0 (length c.args.rows.now))
 
 one_more : (i : ℕ) (rows : List Row) (d : Row) → i < length rows → flat_map encode_row (take i rows) ++ encode_row (get_or rows i d) ≡ flat_map encode_row (take (i + 1) rows)
 one_more i rows d lt = flat_map_more encode_row [] (take i rows) (get_or rows i d) ∙ sym (ap (flat_map encode_row) (take_more rows i d lt))
@@ -24,21 +24,21 @@ turn : (rows : List Row) (d : Row) (start sheet sheet' : List ℕ) (end end' i :
     → i < length rows → length rows ≤ 32 → 225 ≤ length start
     → end' ≡ end + length (encode_row (get_or rows i d)) → sheet' ≡ pasted end (encode_row (get_or rows i d)) sheet
     → (end' ≡ 1 + length (flat_map encode_row (take (i + 1) rows))) × (sheet' ≡ pasted 1 (flat_map encode_row (take (i + 1) rows)) start)
-turn rows d start sheet sheet' end end' i is was lt few_rows room put-end put-sheet =
+turn rows d start sheet sheet' end end' i is was lt few_rows room put-end put_sheet =
     let front = flat_map encode_row (take i rows) in
     let row = encode_row (get_or rows i d) in
     let longer : length (front ++ row) ≡ length front + length row = length-append front row in
     let next : end' ≡ 1 + length (front ++ row) = omega arith in (
       next ∙ ap (λ l. 1 + length l) (one_more i rows d lt),
-      pasted_more 1 end front row start sheet sheet' is was put-sheet (omega (arith, few i rows, encode_row_le (get_or rows i d))) ∙ ap (λ l. pasted 1 l start) (one_more i rows d lt),
+      pasted_more 1 end front row start sheet sheet' is was put_sheet (omega (arith, few i rows, encode_row_le (get_or rows i d))) ∙ ap (λ l. pasted 1 l start) (one_more i rows d lt),
     )
 
 pub loop-row-preserved : goal.loop-row-preserved
 loop-row-preserved c =
     let start = set c.args.sheet.now 0 (length c.args.rows.now) in
     let roomy : 225 ≤ length start = omega (arith, length-set c.args.sheet.now 0 (length c.args.rows.now)) in
-    turn c.args.rows.now record { arrival = 0; price = 0 } start c.loop-row.sheet c.put-row-end.new.sheet c.loop-row.end c.put-row-end.result c.loop-row.row-index
-    c.loop-row.invariant.0 c.loop-row.invariant.1 c.loop-row-test.true c.requires.good.few roomy c.put-row-end.ensures.end c.put-row-end.ensures.left
+    turn c.args.rows.now record { arrival = 0; price = 0 } start c.loop-row.sheet c.put_row-end.new.sheet c.loop-row.end c.put_row-end.result c.loop-row.row-index
+    c.loop-row.invariant.0 c.loop-row.invariant.1 c.loop-row-test.true c.requires.good.few roomy c.put_row-end.ensures.end c.put_row-end.ensures.left
 
 -- what stands in front of a sheet
 front : (bytes list sheet : List ℕ) (end : ℕ) → end ≡ length bytes → sheet ≡ laid bytes list → take end sheet ≡ bytes
