@@ -1,17 +1,16 @@
 -- The picks are the best offers. Assumes nothing.
-use Rattle.std.proofs.Common.{◌≡◌, ℕ, zero, suc, ◌+◌, ◌<◌, ◌≤◌, Bool, true, false, cond, not, ◌&&◌, ◌||◌, eqb, ltb, leb, ◌⊎◌, List, [], ◌∷◌, ◌++◌, get_or, Some, None, Option, sym, refl, ap, ◌∙◌, subst, ap₂, inl, inr, ⊎_elim, arith}
+use Rattle.std.proofs.Common.{◌≡◌, ℕ, zero, suc, ◌<◌, ◌≤◌, true, false, ◌&&◌, eqb, ltb, List, [], ◌∷◌, get_or, Some, None, Option, sym, refl, ap, ◌∙◌, subst, ap₂, inl, inr, arith}
 use Rattle.std.proofs.lemmas.Bool.{cond_both, cond-true, or_cases, or_parts, and_parts, and_cases, and_from, ltb-true, ltb-false, eqb-true, eqb-false, eq-eqb, lt-ltb, cases_lt, cases_eq}
 use Rattle.journeys.specs.declared.label.Label.{Label}
 use Rattle.journeys.specs.Journey.{Leg}
 use Rattle.journeys.specs.declared.best_offer.BestOffer.{BestOffer}
-use Rattle.journeys.specs.Lists.{foldi, Each, Eachi}
+use Rattle.journeys.specs.Lists.{Each, Eachi}
 use Rattle.journeys.specs.Lists.{Somewhere}
 use Rattle.journeys.specs.Fare.{FareModel, FareLaws}
 use Rattle.journeys.specs.Journey.{Setup, Place, last}
 use Rattle.journeys.specs.Offers.{Offer, AtMost, Beats, Such, Best, fee, offer_of}
 use Rattle.journeys.specs.Endless.{scan∞}
 use Rattle.journeys.specs.Traces.{legs_of}
-use Rattle.journeys.proofs.Meets.{place}
 use Rattle.journeys.specs.Answers.{Ordered, Handed, Answers}
 use Rattle.journeys.specs.Selection.{offer_at, before, first_of, picking_one, pick, and_cheaper, picks, offered}
 use Rattle.journeys.proofs.Lists.{foldi_finds, foldi_each, some_imp, some_at, some_out, some_each, each_imp, eachi_all, eachi_both}
@@ -19,7 +18,7 @@ use Rattle.journeys.proofs.Grows.{scan_rides}
 use Rattle.journeys.proofs.Meets.{Matches, Meets}
 use Rattle.journeys.proofs.Complete.{complete}
 use Rattle.journeys.proofs.Times.{Timely}
-use Rattle.journeys.proofs.Sound.{Known, Real, Sound, scan_sound}
+use Rattle.journeys.proofs.Sound.{Known, scan_sound}
 
 -- the row is before the offer, or at it
 pub record Upto (q : BestOffer) (t p : ℕ) : Type 0 where

@@ -1,19 +1,18 @@
 -- Every journey within the limit is met by a label. Assumes nothing.
-use Rattle.std.proofs.Common.{◌≡◌, ℕ, zero, suc, ◌+◌, ◌-◌, ◌<◌, ◌≤◌, Bool, true, false, cond, not, ◌&&◌, ◌||◌, eqb, leb, ◌⊎◌, List, [], ◌∷◌, ◌++◌, map, length, sym, refl, ap, ◌∙◌, subst, inl, inr, ⊎_elim, arith}
-use Rattle.std.proofs.lemmas.Bool.{cond_both, cond-true, cases_eq, eqb-true, eq-eqb, le-leb, and_from, both_ways, not_from_false}
+use Rattle.std.proofs.Common.{◌≡◌, ℕ, zero, suc, ◌+◌, ◌-◌, ◌<◌, ◌≤◌, true, eqb, List, [], ◌∷◌, ◌++◌, length, sym, refl, ap, ◌∙◌, subst, inl, arith}
+use Rattle.std.proofs.lemmas.Bool.{cond_both, cond-true, eq-eqb, le-leb, and_from, not_from_false}
 use Rattle.journeys.specs.declared.label.Passenger.{Passenger}
 use Rattle.journeys.specs.declared.network.Footpath.{Footpath}
 use Rattle.timetable.specs.declared.hops.Hop.{Hop}
 use Rattle.journeys.specs.declared.label.Label.{Label}
 use Rattle.journeys.specs.Journey.{Leg}
 use Rattle.journeys.specs.Journey.{walk, ride}
-use Rattle.journeys.specs.declared.label.Way.{Way}
-use Rattle.journeys.specs.Lists.{foldi, any, Somewhere, Each}
-use Rattle.journeys.specs.Fare.{FareModel, FareLaws}
+use Rattle.journeys.specs.Lists.{foldi, any, Somewhere}
+use Rattle.journeys.specs.Fare.{FareLaws}
 use Rattle.journeys.specs.Journey.{Setup, Place, through, hop_in, path_in, after, end, start, last, LegOk, LegsOk, Journey, WalkOk, RideOk}
 use Rattle.journeys.specs.Fare.{boarded}
-use Rattle.journeys.specs.Labels.{time_on_foot, covers, label_by_walk, label_by_ride, passenger, fresh, rides_on, boards}
-use Rattle.journeys.specs.Endless.{Pass, offer∞, walk∞, walk_on∞, walks∞, kept∞, alight∞, hop∞, carried∞, pass∞, scan∞, first∞, board∞, seat∞}
+use Rattle.journeys.specs.Labels.{label_by_walk, label_by_ride, passenger, fresh, rides_on, boards}
+use Rattle.journeys.specs.Endless.{Pass, offer∞, walk∞, walk_on∞, walks∞, kept∞, alight∞, hop∞, carried∞, pass∞, scan∞, board∞, seat∞}
 use Rattle.journeys.proofs.Lists.{some_imp, some_left, some_right, some_map, some_get, some_at, any_some, foldi_finds, foldi_keeps, grown_some}
 use Rattle.journeys.proofs.Meets.{Matches, Meets, matches_over, matches_hop, matches_boarded, offer_keeps, offer_meets}
 use Rattle.journeys.proofs.Grows.{Of, ridden, pass_grown, pass_up, foot_up, scan_up, in_round, before_walks}

@@ -1,18 +1,14 @@
 -- The store only grows, in the round k by labels of k rides. Assumes nothing.
-use Rattle.std.proofs.Common.{◌≡◌, ℕ, zero, suc, ◌+◌, ◌<◌, ◌≤◌, Bool, true, false, cond, not, ◌&&◌, ◌||◌, eqb, leb, ◌⊎◌, List, [], ◌∷◌, ◌++◌, length, sym, refl, ap, ◌∙◌, subst, inl, inr, ⊎_elim, arith}
+use Rattle.std.proofs.Common.{◌≡◌, ℕ, zero, suc, ◌≤◌, true, false, not, eqb, List, [], ◌∷◌, length, refl, subst, inl, inr, arith}
 use Rattle.std.proofs.lemmas.Bool.{cond_both, cases_eq, eqb-true, both_ways, and_parts}
-use Rattle.journeys.specs.declared.label.Passenger.{Passenger}
 use Rattle.journeys.specs.declared.network.Footpath.{Footpath}
 use Rattle.timetable.specs.declared.hops.Hop.{Hop}
 use Rattle.journeys.specs.declared.label.Label.{Label}
-use Rattle.journeys.specs.declared.label.Way.{Way}
-use Rattle.journeys.specs.Lists.{foldi, any, Somewhere, Each}
-use Rattle.journeys.specs.Fare.{FareModel, FareLaws}
-use Rattle.journeys.specs.Journey.{Setup, Place, hop_in}
-use Rattle.journeys.specs.Fare.{boarded}
-use Rattle.journeys.specs.Labels.{time_on_foot, covers, label_by_walk, label_by_ride, passenger, fresh, boards}
-use Rattle.journeys.specs.Endless.{Pass, offer∞, walk∞, walk_on∞, walks∞, alight∞, hop∞, carried∞, pass∞, scan∞, first∞, board∞, seat∞}
-use Rattle.journeys.proofs.Lists.{Grown, grown_none, grown_one, grown_trans, grown_some, grown_cases, foldi_grown, some_each, each_append, some_imp, some_get, grown_imp, each_imp, grown_each}
+use Rattle.journeys.specs.Lists.{Somewhere, Each}
+use Rattle.journeys.specs.Journey.{Setup, hop_in}
+use Rattle.journeys.specs.Labels.{time_on_foot, label_by_walk, label_by_ride, fresh}
+use Rattle.journeys.specs.Endless.{Pass, walk∞, walk_on∞, walks∞, alight∞, hop∞, carried∞, pass∞, scan∞, first∞}
+use Rattle.journeys.proofs.Lists.{Grown, grown_none, grown_trans, grown_some, grown_cases, foldi_grown, some_imp, some_get, grown_imp, each_imp, grown_each}
 use Rattle.journeys.proofs.Meets.{offer_grown}
 
 abbrev pub Of : {S : Type 0} → ℕ → Label S → Type 0

@@ -1,5 +1,5 @@
 -- The laws of tariff and measure give the laws of the fares that they make over a network.
-use Rattle.std.proofs.Common.{◌≡◌, true, List}
+use Rattle.std.proofs.Common.{List}
 use Rattle.std.proofs.lemmas.Bool.{and_parts, and_from}
 use Rattle.fares.specs.Limits.{change_event}
 use Rattle.fares.specs.Measures.{MeasureModel, MeasureLaws}

@@ -1,11 +1,9 @@
 -- A label meets a place of a journey; what one label covers, it meets. Assumes nothing.
-use Rattle.std.proofs.Common.{◌≡◌, ℕ, zero, suc, ◌+◌, ◌<◌, ◌≤◌, Bool, true, false, cond, not, ◌&&◌, ◌||◌, eqb, leb, ◌⊎◌, List, [], ◌∷◌, ◌++◌, sym, refl, ap, ◌∙◌, subst, inl, inr, ⊎_elim, arith}
-use Rattle.std.proofs.lemmas.Bool.{and_parts, or_cases, not-true, leb-true, eqb-true, eq-eqb, cond_both, false≢true, both_ways}
-use Rattle.journeys.specs.declared.label.Passenger.{Passenger}
+use Rattle.std.proofs.Common.{◌≡◌, ℕ, zero, suc, ◌≤◌, true, false, not, ◌||◌, eqb, leb, ◌⊎◌, List, [], ◌∷◌, ◌++◌, sym, ap, ◌∙◌, inl, inr, ⊎_elim, arith}
+use Rattle.std.proofs.lemmas.Bool.{and_parts, or_cases, not-true, leb-true, eqb-true, eq-eqb, cond_both, both_ways}
 use Rattle.timetable.specs.declared.hops.Hop.{Hop}
 use Rattle.journeys.specs.declared.label.Label.{Label}
-use Rattle.journeys.specs.declared.label.Way.{Way}
-use Rattle.journeys.specs.Lists.{foldi, any, Somewhere, Each}
+use Rattle.journeys.specs.Lists.{any, Somewhere}
 use Rattle.journeys.specs.Fare.{FareModel, FareLaws}
 use Rattle.journeys.specs.Journey.{Setup, Place}
 use Rattle.journeys.specs.Fare.{boarded}

@@ -1,6 +1,6 @@
 -- Every label is where the legs that lead to it end. Assumes nothing.
-use Rattle.std.proofs.Common.{◌≡◌, ℕ, zero, suc, ◌+◌, ◌-◌, ◌<◌, ◌≤◌, Bool, true, false, cond, not, ◌&&◌, ◌||◌, eqb, leb, ◌⊎◌, List, [], ◌∷◌, ◌++◌, map, length, get_or, sym, refl, ap, ◌∙◌, subst, ap₂, inl, inr, ⊎_elim, arith, length-append}
-use Rattle.std.proofs.lemmas.Bool.{cond_both, cond-true, cases_eq, cases_Bool, eqb-true, leb-true, eq-eqb, le-leb, and_parts, and_from, both_ways, not-true}
+use Rattle.std.proofs.Common.{◌≡◌, ℕ, zero, suc, ◌+◌, ◌-◌, ◌<◌, ◌≤◌, true, false, not, ◌&&◌, eqb, leb, List, [], ◌∷◌, ◌++◌, map, length, sym, refl, ap, ◌∙◌, subst, ap₂, inl, inr, arith, length-append}
+use Rattle.std.proofs.lemmas.Bool.{cond_both, cases_eq, eqb-true, leb-true, and_parts, not-true}
 use Rattle.journeys.specs.declared.label.Passenger.{Passenger}
 use Rattle.journeys.specs.declared.network.Footpath.{Footpath}
 use Rattle.timetable.specs.declared.hops.Hop.{Hop}
@@ -9,15 +9,14 @@ use Rattle.journeys.specs.Journey.{Leg}
 use Rattle.journeys.specs.Journey.{walk, ride}
 use Rattle.journeys.specs.declared.label.Way.{Way}
 use Rattle.journeys.specs.declared.label.Way.TheVariants.{Origin, Walked, Rode}
-use Rattle.journeys.specs.Lists.{foldi, any, Somewhere, Each, Eachi}
-use Rattle.journeys.specs.Fare.{FareModel, FareLaws}
-use Rattle.journeys.specs.Journey.{Setup, Place, through, hop_in, path_in, no_path, after, end, start, last, LegOk, LegsOk, Journey, WalkOk, RideOk}
+use Rattle.journeys.specs.Lists.{foldi, any, Each, Eachi}
+use Rattle.journeys.specs.Journey.{Setup, Place, through, hop_in, path_in, no_path, after, start, last, LegOk, Journey}
 use Rattle.journeys.specs.Fare.{boarded}
 use Rattle.journeys.specs.Labels.{time_on_foot, covers, label_by_walk, label_by_ride, passenger, fresh, rides_on, boards}
 use Rattle.journeys.specs.Endless.{Pass, offer∞, walk∞, walk_on∞, walks∞, kept∞, alight∞, hop∞, carried∞, pass∞, scan∞, first∞, board∞, seat∞}
 use Rattle.journeys.specs.Traces.{legs_by, traces, legs_of}
 use Rattle.journeys.proofs.Meets.{place}
-use Rattle.journeys.proofs.Lists.{foldi_each, foldi_keeps, eachi_of, eachi_imp, eachi_push, eachi_at, each_imp, each_append, each_map, Grown, grown_none, grown_one, grown_trans}
+use Rattle.journeys.proofs.Lists.{foldi_each, eachi_of, eachi_imp, eachi_push, eachi_at, each_imp, each_append, each_map, Grown, grown_none, grown_one, grown_trans}
 use Rattle.journeys.proofs.Traces.{legs_stay, legs_push, end_push, ok_push}
 use Rattle.journeys.proofs.Meets.{offer_grown}
 use Rattle.journeys.proofs.Times.{Timely, rested_time, later_is}

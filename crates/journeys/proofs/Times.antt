@@ -1,7 +1,7 @@
 -- How late a journey can end, and how many legs it can have.
-use Rattle.std.proofs.Common.{◌≡◌, ℕ, zero, suc, ◌+◌, ◌*◌, ◌<◌, ◌≤◌, Bool, true, false, List, [], ◌∷◌, length, sym, refl, ap, ◌∙◌, arith}
+use Rattle.std.proofs.Common.{◌≡◌, ℕ, ◌+◌, ◌*◌, ◌<◌, ◌≤◌, Bool, true, false, List, [], ◌∷◌, length, ap, arith}
 use Rattle.std.proofs.lemmas.Bool.{true≢false}
-use Rattle.journeys.specs.Journey.{Setup, Place, Leg, walk, ride, hop_in, path_in, after, end, start, last, LegOk, LegsOk, Journey}
+use Rattle.journeys.specs.Journey.{Setup, Place, Leg, walk, ride, hop_in, path_in, after, end, start, last, LegsOk, Journey}
 use Rattle.journeys.specs.Labels.{later}
 
 -- what the limits of a question and the timetable rule give: nothing begins or arrives late, and no footpath is long

@@ -1,9 +1,8 @@
 -- The legs of the labels of a store that grows. Assumes nothing.
-use Rattle.std.proofs.Common.{◌≡◌, ℕ, zero, suc, ◌+◌, ◌<◌, ◌≤◌, Bool, true, false, List, [], ◌∷◌, ◌++◌, length, get_or, sym, refl, ap, ◌∙◌, subst, append_assoc, append-nil, arith, length-append}
+use Rattle.std.proofs.Common.{◌≡◌, ℕ, zero, suc, ◌+◌, ◌<◌, List, [], ◌∷◌, ◌++◌, length, get_or, refl, ap, ◌∙◌, arith, length-append}
 use lib.ListN.{get_or-append}
 use Rattle.journeys.specs.declared.label.Label.{Label}
 use Rattle.journeys.specs.Journey.{Leg}
-use Rattle.journeys.specs.declared.label.Way.{Way}
 use Rattle.journeys.specs.Journey.{Setup, Place, after, end, LegOk, LegsOk}
 use Rattle.journeys.specs.Traces.{legs_by, traces_from, traces, legs_of}
 

@@ -1,5 +1,5 @@
 -- The scan with room beside the endless one: it holds the same as long as there is room, and where it is ended the endless one needs more.
-use Rattle.std.proofs.Common.{◌≡◌, ℕ, zero, suc, ◌+◌, ◌<◌, ◌≤◌, max, Bool, true, false, cond, eqb, ltb, ◌⊎◌, List, [], ◌∷◌, ◌++◌, map, length, get_or, sym, refl, ap, ◌∙◌, subst, inl, inr, arith, length-append}
+use Rattle.std.proofs.Common.{◌≡◌, ℕ, zero, suc, ◌<◌, ◌≤◌, max, Bool, true, false, cond, eqb, ltb, ◌⊎◌, List, [], ◌∷◌, ◌++◌, map, length, sym, refl, ap, ◌∙◌, subst, inl, inr, arith, length-append}
 use lib.ListN.{length-map}
 use Rattle.std.proofs.lemmas.Bool.{cond-true, cond-false, cases_Bool, eqb-true, ltb-true, ltb-false}
 use Rattle.timetable.specs.declared.hops.Hop.{Hop}
@@ -14,7 +14,7 @@ use Rattle.journeys.specs.Journey.{Setup, hop_in}
 use Rattle.journeys.specs.Labels.{covers, label_by_walk, label_by_ride, passenger, rides_on, fresh, boards}
 use Rattle.journeys.specs.Lists.{foldi, any}
 use Rattle.journeys.specs.Runs.{Run, on, ended, and_then, within, run_each, push}
-use Rattle.journeys.specs.Scan.{Room, Stage, emptied, kept, with_aboard, with_store, no_hop, offer, seat, walk, walk_on, walks, board, alight, boarding, alighting, riding, pass_hop, pass_hops, passed, walking, round, rounds, blank, scan}
+use Rattle.journeys.specs.Scan.{Room, Stage, emptied, kept, with_aboard, with_store, offer, seat, walk, walk_on, walks, board, alight, boarding, alighting, riding, pass_hop, pass_hops, walking, round, rounds, blank, scan}
 use Rattle.journeys.proofs.Grows.{hop_grown, pass_grown, foot_grown}
 use Rattle.journeys.proofs.Lists.{Grown}
 

@@ -1,6 +1,6 @@
 -- The scan over lists that are never full.
 -- Assumes nothing.
-use Rattle.std.specs.Prelude.{ℕ, zero, suc, max, Bool, cond, List, [], ◌∷◌, ◌++◌, map, length, ◌==◌}
+use Rattle.std.specs.Prelude.{ℕ, zero, suc, max, cond, List, [], ◌∷◌, ◌++◌, map, length, ◌==◌}
 use Rattle.timetable.specs.declared.hops.Hop.{Hop}
 use Rattle.journeys.specs.declared.network.Footpath.{Footpath}
 use Rattle.journeys.specs.declared.label.Label.{Label}

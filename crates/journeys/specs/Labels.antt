@@ -1,6 +1,6 @@
 -- Labels: when one covers another, the candidates for labels, and who may board.
 -- Assumes nothing.
-use Rattle.std.specs.Prelude.{ℕ, zero, suc, ◌+◌, min, Bool, true, false, not, ◌&&◌, ◌||◌, ◌==◌, nat_le}
+use Rattle.std.specs.Prelude.{ℕ, suc, ◌+◌, min, Bool, true, false, not, ◌&&◌, ◌||◌, ◌==◌, nat_le}
 use Rattle.timetable.specs.declared.hops.Hop.{Hop}
 use Rattle.journeys.specs.declared.network.Footpath.{Footpath}
 use Rattle.journeys.specs.declared.label.Way.{Way}

@@ -1,6 +1,6 @@
 -- Folds with each element's place, and what holds of some or of each element.
 -- Assumes nothing.
-use Rattle.std.specs.Prelude.{ℕ, suc, Bool, true, false, ◌||◌, ◌⊎◌, List, [], ◌∷◌}
+use Rattle.std.specs.Prelude.{ℕ, suc, Bool, false, ◌||◌, ◌⊎◌, List, [], ◌∷◌}
 
 -- from the left, with each element's place; the list begins at place i
 abbrev pub foldi : {A B : Type 0} → (ℕ → A → B → B) → ℕ → List A → B → B

@@ -1,9 +1,8 @@
 -- The scan, as it writes labels and those aboard into lists with so many places.
 -- Assumes nothing.
-use Rattle.std.specs.Prelude.{ℕ, zero, suc, Bool, false, cond, List, [], ◌∷◌, map, length, ◌==◌, slice_index_or}
+use Rattle.std.specs.Prelude.{ℕ, zero, suc, false, cond, List, [], map, length, ◌==◌, slice_index_or}
 use Rattle.timetable.specs.declared.hops.Hop.{Hop}
 use Rattle.timetable.specs.Table.{count_of}
-use Rattle.journeys.specs.declared.full.Full.{Full}
 use Rattle.journeys.specs.declared.full.Full.TheVariants.{Store, Aboard}
 use Rattle.journeys.specs.declared.network.Footpath.{Footpath}
 use Rattle.journeys.specs.declared.label.Label.{Label}

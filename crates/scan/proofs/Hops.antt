@@ -1,5 +1,5 @@
 -- What the two lists hold after a hop. Assumes nothing.
-use Rattle.std.proofs.Common.{◌≡◌, ℕ, zero, suc, ◌+◌, ◌<◌, ◌≤◌, Bool, true, false, cond, eqb, ltb, List, [], ◌∷◌, ◌++◌, map, length, get_or, take, Some, None, Ok, Err, Option, Result, sym, refl, ap, ◌∙◌, subst, inl, inr, add-one, arith, length-append, length-take}
+use Rattle.std.proofs.Common.{◌≡◌, ℕ, zero, suc, ◌+◌, ◌≤◌, Bool, true, false, cond, eqb, ltb, List, [], ◌∷◌, ◌++◌, map, length, get_or, take, Some, None, Ok, Err, Option, Result, sym, refl, ap, ◌∙◌, subst, inl, inr, add-one, arith, length-append, length-take}
 use lib.ListN.{length-map}
 use Rattle.journeys.specs.Scan.{no_hop}
 use Rattle.std.proofs.lemmas.Bool.{cond-true, cond-false, cond_both, cases_Bool, cases_eq, eqb-true}
@@ -12,8 +12,8 @@ use Rattle.journeys.specs.Lists.{any}
 use Rattle.journeys.specs.Fare.{FareModel}
 use Rattle.journeys.specs.Labels.{boards, covers, passenger, label_by_ride, rides_on}
 use Rattle.journeys.specs.declared.full.Full.TheVariants.{Store, Aboard}
-use Rattle.journeys.specs.Runs.{Run, on, ended, and_then, within, run_each, overlay, result_of, used_of, Written, push}
-use Rattle.journeys.specs.Scan.{Room, Stage, offer, seat, board, alight, emptied, kept, with_aboard, with_store, boarding, alighting, riding, pass_hop, pass_hops}
+use Rattle.journeys.specs.Runs.{Run, on, ended, and_then, within, run_each, overlay, result_of, Written, push}
+use Rattle.journeys.specs.Scan.{Room, Stage, seat, board, alight, emptied, kept, with_aboard, with_store, boarding, alighting, riding, pass_hop, pass_hops}
 use Rattle.scan.specs.Scanned.{progress_of, answer_of, stage_in, count_kept, Scanned}
 use Rattle.scan.proofs.Loops.{overlay_take, take_overlay, overlay_overlay, some_same, Extends, extends_none, extends_longer, fold_extends}
 use Rattle.scan.proofs.Stores.{alight_extends}

@@ -1,9 +1,9 @@
 -- What a loop over a slice says of `any` and `foldi`. Assumes nothing.
-use Rattle.std.proofs.Common.{◌≡◌, ℕ, zero, suc, ◌+◌, ◌<◌, ◌≤◌, Bool, true, false, ◌||◌, List, [], ◌∷◌, ◌++◌, map, length, get_or, take, drop, set, Some, None, Option, sym, refl, ap, ◌∙◌, subst, append_assoc, append-nil, le_of_suc-le-suc, not-suc-le-zero, add-one, arith, length-append, take-append-drop, length-take, get_or-take}
+use Rattle.std.proofs.Common.{◌≡◌, ℕ, zero, suc, ◌+◌, ◌<◌, ◌≤◌, Bool, true, false, List, [], ◌∷◌, ◌++◌, map, length, get_or, take, drop, set, Some, None, Option, sym, refl, ap, ◌∙◌, subst, append_assoc, append-nil, le_of_suc-le-suc, not-suc-le-zero, add-one, arith, length-append, take-append-drop, length-take, get_or-take}
 use Rattle.std.proofs.lemmas.Bool.{or_left, or_right, or_from, or_parts}
 use Rattle.std.proofs.lemmas.List.{take_more, take_all}
 use Rattle.journeys.specs.Lists.{any, foldi}
-use Rattle.journeys.specs.Runs.{Run, on, ended, and_then, run_each, overlay, result_of, used_of, Written}
+use Rattle.journeys.specs.Runs.{Run, on, ended, and_then, run_each, overlay, result_of, Written}
 
 -- an element that is there does not depend on the default
 pub get_or_same : {A : Type 0} (xs : List A) (j : ℕ) (d e : A) → j < length xs → get_or xs j d ≡ get_or xs j e

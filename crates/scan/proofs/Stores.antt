@@ -1,6 +1,6 @@
 -- What a store's places hold after a candidate was offered. Assumes nothing.
-use Rattle.std.proofs.Common.{◌≡◌, ℕ, zero, suc, ◌+◌, ◌<◌, ◌≤◌, Bool, true, false, cond, eqb, ltb, List, [], ◌∷◌, ◌++◌, length, get_or, take, set, Some, None, Option, sym, refl, ap, ◌∙◌, subst, arith, length-append, length-take}
-use Rattle.std.proofs.lemmas.Bool.{cond-true, cond-false, cond_both, lt-ltb, le-ltb, ne_eqb}
+use Rattle.std.proofs.Common.{◌≡◌, ℕ, ◌+◌, ◌<◌, ◌≤◌, Bool, true, false, cond, eqb, ltb, List, [], ◌∷◌, ◌++◌, length, get_or, take, set, Some, None, Option, sym, refl, ap, ◌∙◌, subst, arith, length-append, length-take}
+use Rattle.std.proofs.lemmas.Bool.{cond-true, cond-false, lt-ltb, le-ltb, ne_eqb}
 use Rattle.journeys.specs.declared.label.Label.{Label}
 use Rattle.journeys.specs.Lists.{any}
 use Rattle.journeys.specs.Fare.{FareModel}
@@ -10,7 +10,7 @@ use Rattle.timetable.specs.declared.hops.Hop.{Hop}
 use Rattle.journeys.specs.declared.label.Passenger.{Passenger}
 use Rattle.journeys.specs.declared.full.Full.{Full}
 use Rattle.journeys.specs.declared.full.Full.TheVariants.{Store, Aboard}
-use Rattle.journeys.specs.Runs.{Run, on, ended, push, run_each, overlay, result_of, used_of, Written}
+use Rattle.journeys.specs.Runs.{Run, on, ended, push, run_each, result_of, Written}
 use Rattle.journeys.specs.Scan.{offer, walk, walk_on, seat, board, alight}
 use Rattle.scan.proofs.Loops.{get_or_same, overlay_take, overlay_next, written_none, written_more, Extends, extends_none, extends_longer, fold_extends, read_first}
 

@@ -1,21 +1,21 @@
 -- What the two lists hold after a round, and after so many rounds.
-use Rattle.std.proofs.Common.{◌≡◌, ℕ, zero, suc, ◌+◌, ◌<◌, ◌≤◌, Bool, true, false, cond, eqb, ltb, List, [], ◌∷◌, ◌++◌, map, length, get_or, take, Some, None, Ok, Err, Option, Result, sym, refl, ap, ◌∙◌, subst, inl, inr, add-one, arith, length-take}
+use Rattle.std.proofs.Common.{◌≡◌, ℕ, zero, suc, ◌+◌, ◌<◌, ◌≤◌, eqb, List, [], length, get_or, take, Some, None, Ok, Err, Option, Result, sym, refl, ap, ◌∙◌, subst, inl, inr, add-one, arith, length-take}
 use Rattle.std.proofs.lemmas.Bool.{cond_both, cases_eq}
 use Rattle.timetable.specs.declared.hops.Hop.{Hop}
 use Rattle.journeys.specs.declared.full.Full.{Full}
-use Rattle.journeys.specs.declared.full.Full.TheVariants.{Store, Aboard}
+use Rattle.journeys.specs.declared.full.Full.TheVariants.{Store}
 use Rattle.journeys.specs.declared.label.Label.{Label}
 use Rattle.journeys.specs.declared.label.Passenger.{Passenger}
 use Rattle.journeys.specs.declared.network.Footpath.{Footpath}
 use Rattle.journeys.specs.Fare.{FareModel}
 use Rattle.journeys.specs.Labels.{covers, label_by_walk, fresh}
-use Rattle.journeys.specs.Runs.{Run, on, ended, and_then, within, run_each, overlay, result_of, used_of, Written}
+use Rattle.journeys.specs.Runs.{Run, on, ended, and_then, within, run_each, result_of, Written}
 use Rattle.journeys.specs.Scan.{no_hop, Room, Stage, offer, walk, walk_on, walks, emptied, with_store, pass_hop, pass_hops, passed, walking, round, rounds, blank, scan}
 use Rattle.scan.specs.declared.progress.Progress.{Progress}
-use Rattle.scan.specs.Scanned.{progress_of, answer_of, stage_in, Scanned}
+use Rattle.scan.specs.Scanned.{stage_in, Scanned}
 use Rattle.scan.proofs.Loops.{Extends, extends_none, extends_trans, fold_extends, overlay_take}
 use Rattle.scan.proofs.Stores.{foot_extends}
-use Rattle.scan.proofs.Hops.{hop_extends, IfFull, full_fold, push_full, pass_ends, scanned_then, scanned_stop, scanned_as, scanned_fit}
+use Rattle.scan.proofs.Hops.{hop_extends, IfFull, full_fold, push_full, pass_ends, scanned_then, scanned_stop, scanned_fit}
 
 module _ {S : Type 0} (f : FareModel S) (room : ℕ) (paths : List Footpath) (k : ℕ) where
   foot_full : (st : List (Label S)) → IfFull (λ s. s ≡ Store) (walks f room paths k st)

@@ -1,5 +1,5 @@
 use Rattle.std.proofs.Common.{sym, ◌∙◌}
-use Rattle.journeys.specs.declared.full.Full.TheVariants.{Store, Aboard}
+use Rattle.journeys.specs.declared.full.Full.TheVariants.{Aboard}
 use Rattle.scan.proofs.Stores.{written_covered, written_next, written_full}
 use Rattle.scan.proofs.boarding.seat.Goals as goal
 

@@ -1,4 +1,4 @@
-use Rattle.std.proofs.Common.{sym, ◌∙◌, rules}
+use Rattle.std.proofs.Common.{sym, ◌∙◌}
 use Rattle.journeys.specs.Labels.{covers}
 use Rattle.scan.proofs.Loops.{any_found, any_next, any_none}
 use Rattle.scan.proofs.covering.is_covered.Goals as goal

@@ -1,6 +1,6 @@
 use Rattle.std.proofs.Common.{sym, ◌∙◌}
 use Rattle.journeys.specs.Labels.{covers}
-use Rattle.journeys.specs.declared.full.Full.TheVariants.{Store, Aboard}
+use Rattle.journeys.specs.declared.full.Full.TheVariants.{Store}
 use Rattle.scan.proofs.Stores.{written_covered, written_next, written_full}
 use Rattle.scan.proofs.offering.offer.Goals as goal
 

@@ -1,5 +1,5 @@
-use Rattle.std.proofs.Common.{◌≡◌, ℕ, ◌+◌, length, get_or, take, sym, refl, ap, ◌∙◌, subst}
-use Rattle.journeys.specs.Runs.{run_each, Written}
+use Rattle.std.proofs.Common.{ℕ, ◌+◌, length, take, sym, subst}
+use Rattle.journeys.specs.Runs.{Written}
 use Rattle.journeys.specs.Scan.{alight, offer}
 use Rattle.scan.proofs.Loops.{written_none, written_out, written_all, written_fits, extends_longer}
 use Rattle.scan.proofs.Stores.{turn, alight_extends, written_as}

@@ -1,4 +1,4 @@
-use Rattle.std.proofs.Common.{◌≡◌, ◌<◌, length, set, sym, ap, ◌∙◌, arith}
+use Rattle.std.proofs.Common.{◌<◌, length, set, ap, ◌∙◌, arith}
 use Rattle.journeys.specs.Labels.{rides_on}
 use Rattle.scan.proofs.Loops.{map_turn}
 use Rattle.scan.proofs.riding.ride_all.Goals as goal

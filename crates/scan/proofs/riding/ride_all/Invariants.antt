@@ -1,4 +1,4 @@
-use Rattle.std.proofs.Common.{◌≡◌, map, length, take}
+use Rattle.std.proofs.Common.{◌≡◌, map, take}
 use Rattle.journeys.specs.Runs.{overlay}
 use Rattle.journeys.specs.Labels.{rides_on}
 use Rattle.scan.proofs.riding.ride_all.Given as goal

@@ -1,17 +1,12 @@
-use Rattle.std.proofs.Common.{◌≡◌, ℕ, ◌+◌, ◌<◌, ◌≤◌, List, length, take, Some, None, Ok, Err, sym, refl, ap, ◌∙◌, subst, arith, length-take, rules}
-use Rattle.timetable.specs.declared.hops.Hop.{Hop}
+use Rattle.std.proofs.Common.{◌≡◌, ℕ, ◌+◌, ◌<◌, ◌≤◌, length, take, Some, None, Ok, Err, sym, refl, ◌∙◌, subst, arith, rules}
 use Rattle.journeys.specs.declared.full.Full.TheVariants.{Store, Aboard}
-use Rattle.journeys.specs.declared.label.Label.{Label}
-use Rattle.journeys.specs.declared.label.Passenger.{Passenger}
-use Rattle.journeys.specs.Fare.{FareModel}
-use Rattle.journeys.specs.Runs.{Written, run_each}
-use Rattle.journeys.specs.Scan.{board, walk, walk_on, passed, pass_hops, rounds}
+use Rattle.journeys.specs.Scan.{walk, walk_on, rounds}
 use Rattle.scan.specs.declared.progress.Progress.{Progress}
 use Rattle.scan.specs.Scanned.{count_kept, stage_in, Scanned}
-use Rattle.scan.proofs.Loops.{written_none, written_out, written_all, written_fits, written_keeps, fold_extends, extends_longer, read_first}
+use Rattle.scan.proofs.Loops.{written_none, written_out, written_all, written_fits, written_keeps, fold_extends, extends_longer}
 use Rattle.scan.proofs.Stores.{walk_turn, walk_longer, foot_next, foot_extends, written_fresh, written_stale, written_as}
 use Rattle.scan.proofs.Hops.{hop_stays, hop_no_seat, hop_no_room, hop_done, pass_begins, scanned_fit}
-use Rattle.scan.proofs.HopReads.{all_boarded, boarder_turn, boarding_out, passed_all, walked_all, kept_fits, passed_later, hop_read, hop_missed, read_turn}
+use Rattle.scan.proofs.HopReads.{all_boarded, boarder_turn, boarding_out, passed_all, walked_all, kept_fits, hop_read, hop_missed, read_turn}
 use Rattle.scan.proofs.WholeRounds.{scan_begins, ends_passing, walks_on, ends_walking}
 use Rattle.scan.proofs.rounds.rounds.Goals as goal
 
@@ -41,8 +36,8 @@ loop-boarder-init g c =
     let fits : c.kept_count-count.result ≤ length c.loop-place.aboard = rw c.kept_count-count.ensures (kept_fits c.loop-place.trip c.loop-place.count c.in-Some.hop (length c.loop-place.aboard) (scanned_fit _ _ _ _ _ c.loop-place.invariant).1) in
     (written_none c.loop-place.aboard c.kept_count-count.result fits, fits)
 
-pub offset-bounds-labels-boarder : goal.offset-bounds-labels-boarder
-offset-bounds-labels-boarder g c =
+pub offset_bounds-labels-boarder : goal.offset_bounds-labels-boarder
+offset_bounds-labels-boarder g c =
     let h : c.loop-boarder.boarder < length c.args.labels.now = omega (arith, c.loop-boarder-test.true, c.loop-place.auto.labels, c.loop-round.auto.labels, (scanned_fit _ _ _ _ _ c.loop-place.invariant).0) in
     search rules
 
@@ -80,8 +75,8 @@ loop-place-preserved g c =
 pub loop-walker-init : goal.loop-walker-init
 loop-walker-init g c = let fits = (scanned_fit _ _ _ _ _ c.loop-place.invariant).0 in (written_none c.loop-place.labels c.loop-place.used fits, fits, refl)
 
-pub offset-bounds-labels-walker : goal.offset-bounds-labels-walker
-offset-bounds-labels-walker g c =
+pub offset_bounds-labels-walker : goal.offset_bounds-labels-walker
+offset_bounds-labels-walker g c =
     let h : c.loop-walker.walker < length c.args.labels.now = omega (arith, c.loop-walker-test.true, c.loop-place.auto.labels, c.loop-round.auto.labels, (scanned_fit _ _ _ _ _ c.loop-place.invariant).0) in
     search rules
 
@@ -133,8 +128,8 @@ loop-round-preserved g c =
     walks_on f hs paths c.args.labels.now c.loop-round.labels c.args.aboard.now c.loop-round.aboard (stage_in c.args.labels.now c.args.aboard.now (record { used = c.args.written; count = 0; trip = 0 })) k begun c.loop-round.auto.labels c.loop-round.auto.aboard c.loop-round.invariant here c.loop-walker.labels c.loop-place.aboard at (Some c.loop-walker.used) c.loop-place.auto.labels p w
 
 -- the last round is done
-pub returns·2 : goal.returns·2
-returns·2 g c =
+pub returns-2 : goal.returns-2
+returns-2 g c =
     let f = g.F.Fare.model c.args.fare.now in
     let hs = g.T.Timetable.hops c.args.timetable.now in
     let paths = c.args.paths.now in

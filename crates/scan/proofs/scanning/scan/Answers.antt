@@ -1,4 +1,4 @@
-use Rattle.std.proofs.Common.{◌≡◌, [], length, subst}
+use Rattle.std.proofs.Common.{[], length, subst}
 use Rattle.journeys.specs.Labels.{label_at_origin}
 use Rattle.journeys.specs.Runs.{Written}
 use Rattle.journeys.specs.Scan.{offer}
