@@ -1,6 +1,6 @@
 -- A question is accepted exactly where it is acceptable.
-use Rattle.std.proofs.Common.{◌≡◌, ℕ, ◌<◌, ◌≤◌, Bool, true, false, cond, ltb, ◌⊎◌, List, [], ◌∷◌, map, length, is_ok, Some, None, Ok, Err, Decides, Option, sym, refl, ap, ◌∙◌, subst, inl, inr, arith}
-use Rattle.std.proofs.lemmas.Bool.{ltb-true, ltb-false, true≢false, false≢true}
+use Rattle.std.proofs.Common.{◌≡◌, ℕ, ◌≤◌, Bool, true, false, cond, ltb, List, length, is_ok, Some, None, Ok, Decides, Option, refl, ap, inl, inr, arith}
+use Rattle.std.proofs.lemmas.Bool.{ltb-true, ltb-false, false≢true}
 use Rattle.timetable.specs.declared.hops.Hop.{Hop}
 use Rattle.journeys.specs.declared.network.Footpath.{Footpath}
 use Rattle.journeys.specs.declared.network.Stop.{Stop}
@@ -15,12 +15,12 @@ use Rattle.journeys.proofs.Tracks.{Along, scan_along}
 use Rattle.sheet.specs.Rows.{most_rows}
 use Rattle.planner.specs.declared.refusal.Refusal.{Refusal}
 use Rattle.planner.specs.declared.refusal.Refusal.TheVariants.{ManyOffers}
-use Rattle.planner.specs.Acceptance.{Askable, Acceptable}
+use Rattle.planner.specs.Acceptance.{Acceptable}
 use Rattle.planner.specs.Limits.{fault_of}
-use Rattle.planner.specs.Outcome.{Memory, Outcome, asked, scanned, answered, refused, used, counted, printed, unless}
+use Rattle.planner.specs.Outcome.{Memory, asked, scanned, answered, refused, used, counted, printed, unless}
 use Rattle.planner.specs.Promise.{setup_of}
 use Rattle.planner.proofs.Askables.{askable, no_fault_found}
-use Rattle.planner.proofs.Settled.{Limits, limits}
+use Rattle.planner.proofs.Settled.{limits}
 
 module _ {S : Type 0} (f : FareModel S) (hops : List Hop) (stops : List Stop) (paths : List Footpath) (q : Asked) (m : Memory S) where
   abbrev w : Setup S

@@ -1,5 +1,5 @@
 -- From what the scan and the selection tell to the outcome of the question.
-use Rattle.std.proofs.Common.{◌≡◌, ℕ, zero, suc, ◌+◌, ◌-◌, ◌<◌, ◌≤◌, Bool, true, false, cond, ltb, List, [], ◌∷◌, ◌++◌, map, length, take, Ok, Err, Result, sym, refl, ap, ◌∙◌, subst, arith, length-append, length-drop, length-take}
+use Rattle.std.proofs.Common.{◌≡◌, ℕ, ◌-◌, ◌<◌, ◌≤◌, ltb, List, length, take, Ok, Err, sym, refl, ap, ◌∙◌, subst, arith, length-append, length-drop}
 use Rattle.std.proofs.lemmas.List.{take_all}
 use Rattle.std.proofs.lemmas.Bool.{cond-true, cond-false, lt-ltb, le-ltb}
 use Rattle.journeys.specs.declared.best_offer.BestOffer.{BestOffer}
@@ -17,9 +17,8 @@ use Rattle.scan.specs.Scanned.{told, used_after}
 use Rattle.scan.proofs.Loops.{take_overlay}
 use Rattle.sheet.specs.Rows.{most_rows}
 use Rattle.planner.specs.declared.answer.Answer.{Answer}
-use Rattle.planner.specs.declared.refusal.Refusal.{Refusal}
-use Rattle.planner.specs.declared.refusal.Refusal.TheVariants.{StoreFull, AboardFull, ManyOffers}
-use Rattle.planner.specs.Outcome.{Memory, Outcome, Leaves, scanned, refusal_of_scan, answered, counted, printed}
+use Rattle.planner.specs.declared.refusal.Refusal.TheVariants.{StoreFull, ManyOffers}
+use Rattle.planner.specs.Outcome.{Memory, Leaves, scanned, refusal_of_scan, counted, printed}
 
 overlay_length : {A : Type 0} (xs old : List A) → length xs ≤ length old → length (overlay xs old) ≡ length old
 overlay_length xs old h = simp (length-append, length-drop) (omega arith)

@@ -1,5 +1,5 @@
 -- The first fault of a question, by the test that finds it.
-use Rattle.std.proofs.Common.{◌≡◌, ℕ, List, length, Some, None, Option, sym, refl, ap, ◌∙◌}
+use Rattle.std.proofs.Common.{◌≡◌, ℕ, List, length, Some, None, Option, refl, ap, ◌∙◌}
 use Rattle.timetable.specs.declared.hops.Hop.{Hop}
 use Rattle.timetable.specs.Table.{count_of}
 use Rattle.journeys.specs.declared.network.Footpath.{Footpath}

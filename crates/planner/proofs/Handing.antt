@@ -1,5 +1,5 @@
 -- Rows and legs written one offer at a time.
-use Rattle.std.proofs.Common.{◌≡◌, ℕ, zero, suc, ◌+◌, ◌-◌, ◌<◌, ◌≤◌, List, [], ◌∷◌, ◌++◌, map, length, get_or, take, drop, set, Ok, Result, sym, refl, ap, ◌∙◌, subst, append_assoc, append-nil, add-one, arith, length-append, take-append-drop, length-take, take-suc-set}
+use Rattle.std.proofs.Common.{◌≡◌, ℕ, zero, suc, ◌+◌, ◌-◌, ◌<◌, ◌≤◌, List, [], ◌∷◌, ◌++◌, map, length, get_or, take, drop, set, Ok, Result, sym, ap, ◌∙◌, append_assoc, append-nil, add-one, arith, length-append, take-append-drop, length-take, take-suc-set}
 use lib.ListN.{length-map}
 use Rattle.std.proofs.lemmas.List.{take_more, take_all, map-append}
 use Rattle.journeys.specs.declared.best_offer.BestOffer.{BestOffer}

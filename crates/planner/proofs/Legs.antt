@@ -1,9 +1,8 @@
 -- The legs to a label, from those to the label that it comes from; and a list with something written at a place.
-use Rattle.std.proofs.Common.{◌≡◌, ℕ, zero, suc, ◌+◌, ◌<◌, ◌≤◌, List, [], ◌∷◌, ◌++◌, map, length, get_or, take, drop, set, sym, refl, ap, ◌∙◌, subst, append_assoc, add-one, arith, length-append, length-drop, take-append-drop, length-take}
+use Rattle.std.proofs.Common.{◌≡◌, ℕ, zero, suc, ◌+◌, ◌<◌, ◌≤◌, List, [], ◌∷◌, ◌++◌, map, length, get_or, take, drop, set, sym, ap, ◌∙◌, subst, arith, length-append, take-append-drop, length-take}
 use lib.ListN.{length-map}
 use Rattle.std.proofs.lemmas.List.{take_more, map-append}
 use Rattle.journeys.specs.declared.label.Label.{Label}
-use Rattle.journeys.specs.declared.label.Way.{Way}
 use Rattle.journeys.specs.declared.label.Way.TheVariants.{Origin, Walked, Rode}
 use Rattle.journeys.specs.declared.leg.Leg.{Leg as SheetLeg}
 use Rattle.journeys.specs.Journey.{Leg, walk, ride}

@@ -1,5 +1,5 @@
 -- The best offers, picked one by one: prices fall, so that no number of them is too small to begin with.
-use Rattle.std.proofs.Common.{◌≡◌, ℕ, zero, suc, ◌+◌, ◌<◌, ◌≤◌, Bool, true, false, cond, ltb, List, [], ◌∷◌, ◌++◌, length, get_or, take, drop, set, Some, None, Option, sym, refl, ap, ◌∙◌, subst, inl, inr, add-one, arith, length-append, length-drop, length-take}
+use Rattle.std.proofs.Common.{◌≡◌, ℕ, zero, suc, ◌+◌, ◌<◌, ◌≤◌, ltb, List, [], ◌∷◌, ◌++◌, length, take, drop, set, Some, None, Option, sym, refl, ap, ◌∙◌, subst, inl, inr, add-one, arith, length-append, length-drop, length-take}
 use lib.Seq.{take-append-le}
 use Rattle.std.proofs.lemmas.List.{take_all}
 use Rattle.std.proofs.lemmas.Bool.{cond-true, cond-false, cases_lt, lt-ltb, le-ltb}
@@ -9,7 +9,7 @@ use Rattle.journeys.specs.Fare.{FareModel}
 use Rattle.journeys.specs.Runs.{overlay}
 use Rattle.journeys.specs.Selection.{pick, picks, and_cheaper, price_bound, best_offers}
 use Rattle.journeys.proofs.Best.{If, OfStore, pick_in}
-use Rattle.scan.proofs.Loops.{overlay_take, overlay_next, overlay_overlay, take_overlay}
+use Rattle.scan.proofs.Loops.{overlay_next, overlay_overlay, take_overlay}
 use Rattle.planner.specs.Selecting.{put_at}
 
 module _ {S : Type 0} (f : FareModel S) (dest : ℕ) (ls : List (Label S)) where

@@ -1,5 +1,5 @@
 -- The sheet and the legs of an answered question show every connection worth choosing, and nothing else.
-use Rattle.std.proofs.Common.{◌≡◌, ℕ, zero, suc, ◌<◌, ◌≤◌, Bool, true, false, cond, ltb, List, [], ◌∷◌, ◌++◌, map, length, take, Ok, Err, sym, refl, ap, ◌∙◌, subst, inl, inr, arith, lit<, length-append}
+use Rattle.std.proofs.Common.{◌≡◌, ℕ, suc, ◌<◌, ◌≤◌, true, ltb, List, [], ◌∷◌, ◌++◌, map, length, take, Ok, sym, refl, ap, ◌∙◌, subst, inl, inr, arith, lit<, length-append}
 use lib.ListN.{length-map}
 use Rattle.std.proofs.lemmas.Bool.{cond-true, cond-false, cases_lt, lt-ltb, le-ltb}
 use Rattle.timetable.specs.declared.hops.Hop.{Hop}
@@ -13,16 +13,14 @@ use Rattle.journeys.specs.declared.question.Question.{Question as Asked}
 use Rattle.journeys.specs.Answers.{Answers, Handed}
 use Rattle.journeys.specs.Endless.{scan∞}
 use Rattle.journeys.specs.Fare.{FareModel, FareLaws}
-use Rattle.journeys.specs.Journey.{Setup, Leg, last}
-use Rattle.journeys.specs.Lists.{Each, Somewhere}
-use Rattle.journeys.specs.Offers.{Offer, offer_of, AtMost, Such, Best}
+use Rattle.journeys.specs.Journey.{Setup, last}
+use Rattle.journeys.specs.Offers.{offer_of, AtMost, Best}
 use Rattle.journeys.specs.Runs.{Run, on, ended}
 use Rattle.journeys.specs.Scan.{Stage, scan_for}
 use Rattle.journeys.specs.Selection.{best_offers, price_bound, offered}
 use Rattle.journeys.specs.Traces.{legs_of, spelled}
 use Rattle.journeys.proofs.Best.{answers}
 use Rattle.journeys.proofs.Lists.{each_map, some_map}
-use Rattle.journeys.proofs.Times.{Timely}
 use Rattle.scan.proofs.Loops.{take_overlay}
 use Rattle.sheet.specs.Format.{encode}
 use Rattle.sheet.specs.Rows.{most_rows, Good}

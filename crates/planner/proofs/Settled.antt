@@ -1,12 +1,12 @@
 -- A question without a fault: the limits that it keeps, and so what its scan finds fits the sheet and the legs.
-use Rattle.std.proofs.Common.{◌≡◌, ℕ, zero, suc, ◌+◌, ◌*◌, ◌<◌, ◌≤◌, Bool, true, false, cond, not, ◌&&◌, ◌||◌, eqb, ltb, leb, List, [], ◌∷◌, ◌++◌, map, length, get_or, Some, None, Option, sym, refl, ap, ◌∙◌, subst, subst₂, inl, inr, arith, length-append}
+use Rattle.std.proofs.Common.{◌≡◌, ℕ, zero, suc, ◌*◌, ◌<◌, ◌≤◌, true, List, [], ◌∷◌, map, length, get_or, Some, None, Option, sym, ap, ◌∙◌, subst, subst₂, inl, inr, arith, length-append}
 use lib.ListN.{length-map, get_or-eq_default}
-use Rattle.std.specs.List.{slice_get, AllByRecursion as All}
+use Rattle.std.specs.List.{AllByRecursion as All}
 use Rattle.std.proofs.lemmas.Option.{slice_get-get_or}
-use Rattle.std.proofs.lemmas.Bool.{and_parts, or_parts, ltb-false, leb-false, leb-true, cases_lt, true≢false}
+use Rattle.std.proofs.lemmas.Bool.{cases_lt, true≢false}
 use Rattle.timetable.specs.declared.hops.Hop.{Hop}
-use Rattle.timetable.specs.Rule.{keeps, day_end}
-use Rattle.timetable.specs.Table.{most_hops, count_of}
+use Rattle.timetable.specs.Rule.{keeps}
+use Rattle.timetable.specs.Table.{count_of}
 use Rattle.timetable.proofs.Neighbours.{arrives_by}
 use Rattle.journeys.specs.declared.best_offer.BestOffer.{BestOffer}
 use Rattle.journeys.specs.declared.label.Label.{Label}
@@ -17,29 +17,22 @@ use Rattle.journeys.specs.declared.question.Question.{Question as Asked}
 use Rattle.journeys.specs.Answers.{Ordered, Handed}
 use Rattle.journeys.specs.Endless.{scan∞, most_aboard∞}
 use Rattle.journeys.specs.Fare.{FareModel}
-use Rattle.journeys.specs.Journey.{Setup, hop_in, path_in, no_path, last}
-use Rattle.journeys.specs.Lists.{Each, Eachi}
+use Rattle.journeys.specs.Journey.{Setup, hop_in, no_path, last}
+use Rattle.journeys.specs.Lists.{Each}
 use Rattle.journeys.specs.Scan.{no_hop, Stage, scan_for}
-use Rattle.journeys.specs.Runs.{Run, on, ended}
-use Rattle.journeys.specs.Selection.{picks, price_bound, best_offers, pick, and_cheaper, offer_at}
+use Rattle.journeys.specs.Runs.{on}
+use Rattle.journeys.specs.Selection.{picks, price_bound, best_offers, pick, and_cheaper}
 use Rattle.journeys.specs.Traces.{legs_of, spelled}
 use Rattle.journeys.proofs.Best.{If, OfStore, pick_in, best_rows, rows_each, rows_ordered, Unbeaten}
 use Rattle.journeys.proofs.Lists.{each_imp, eachi_imp}
 use Rattle.journeys.proofs.Sound.{Known, scan_sound}
 use Rattle.journeys.proofs.Times.{Timely, journey_time, journey_legs}
 use Rattle.journeys.proofs.Tracks.{Along, scan_along}
-use Rattle.sheet.specs.declared.rows.Row.{Row}
-use Rattle.sheet.specs.Format.{sheet_bytes}
-use Rattle.sheet.specs.Rows.{Good, InRange, last_arrival, top_price}
+use Rattle.sheet.specs.Rows.{Good, InRange}
 use Rattle.sheet.specs.Rows.{Ordered as RowsOrdered}
-use Rattle.planner.specs.declared.refusal.Field.TheVariants.{Origin, Destination, Departure, Rides, Count}
-use Rattle.planner.specs.declared.refusal.NetworkList.TheVariants.{Stops, Footpaths, Hops}
-use Rattle.planner.specs.declared.refusal.OutputList.TheVariants.{Sheet, Legs}
-use Rattle.planner.specs.declared.refusal.Refusal.{Refusal}
-use Rattle.planner.specs.declared.refusal.Refusal.TheVariants.{Question, Network, ShortOutput}
-use Rattle.planner.specs.Acceptance.{PathOk, Askable}
+use Rattle.planner.specs.Acceptance.{PathOk}
 use Rattle.planner.specs.Handout.{row_of, legs_from}
-use Rattle.planner.specs.Limits.{most_rides, most_legs, longest_walk, fault_of_question, path_within, first_bad, fault_of_stops, fault_of_paths, hops_fault, fault_of_network, fault_of_room, or_else, refused_by, fault_of}
+use Rattle.planner.specs.Limits.{fault_of}
 use Rattle.planner.specs.Promise.{setup_of}
 use Rattle.planner.specs.Tracing.{Backward}
 use Rattle.planner.proofs.Askables.{askable}

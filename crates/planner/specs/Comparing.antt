@@ -1,6 +1,6 @@
 -- Two boards compared: whether their sheets are the same bytes, and what that means.
 -- Assumes nothing.
-use Rattle.std.specs.Prelude.{◌≡◌, ℕ, Bool, List, take, Ok, Err, Decides, Result}
+use Rattle.std.specs.Prelude.{ℕ, Bool, List, take, Ok, Err, Decides, Result}
 use Rattle.std.specs.Str.{bytes_eq}
 use Rattle.journeys.specs.Journey.{Setup}
 use Rattle.journeys.specs.Offers.{Offer, Best}

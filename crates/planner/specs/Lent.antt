@@ -1,6 +1,6 @@
 -- What a question is lent: the memory that it works in, and the lists of the network, by what lies behind the references.
 -- Assumes nothing.
-use Rattle.std.specs.Prelude.{ℕ, List, Result}
+use Rattle.std.specs.Prelude.{List, Result}
 use Rattle.journeys.specs.declared.label.Passenger.{Passenger}
 use Rattle.journeys.specs.declared.network.Footpath.{Footpath}
 use Rattle.journeys.specs.declared.network.Network.{Network}

@@ -1,6 +1,6 @@
 -- The limits of a question, of the lists that its answer rests on, and of those that it is written to.
 -- Assumes nothing.
-use Rattle.std.specs.Prelude.{ℕ, suc, Bool, true, false, cond, not, ◌&&◌, ◌||◌, List, [], ◌∷◌, length, take, Some, None, Option, ◌==◌, nat_le, nat_lt}
+use Rattle.std.specs.Prelude.{ℕ, suc, Bool, cond, not, ◌&&◌, ◌||◌, List, [], ◌∷◌, length, take, Some, None, Option, ◌==◌, nat_le, nat_lt}
 use Rattle.timetable.specs.declared.hops.Hop.{Hop}
 use Rattle.timetable.specs.Rule.{day_end}
 use Rattle.timetable.specs.Table.{most_hops, count_of}

@@ -1,6 +1,6 @@
 -- The number of each refusal on the refusal board, and the values that it returns.
 -- Assumes nothing.
-use Rattle.std.specs.Prelude.{ℕ, List, [], ◌∷◌, Ok, Err, Result}
+use Rattle.std.specs.Prelude.{ℕ, [], ◌∷◌, Ok, Err, Result}
 use Rattle.planner.specs.declared.answer.Answer.{Answer}
 use Rattle.planner.specs.declared.refusal.Field.{Field}
 use Rattle.planner.specs.declared.refusal.Field.TheVariants.{Origin, Destination, Departure, Rides, Count}

@@ -56,12 +56,12 @@ fn scan_refusal(full: Full, room: usize) -> Refusal
 
 // Writes the rows and the legs of the best offers.
 fn print_offers<S: Copy>(labels: &[Label<S>], offers: &[BestOffer], out: &mut Printout) -> Answer
-    requires offers_len_bound { length offers.now ≤ 32 }
+    requires few { length offers.now ≤ 32 }
     requires good { Good (map row_of offers.now) }
     requires backward { Backward labels.now }
     requires each { Each (λ o. o.label < length labels.now) offers.now }
-    requires in_bounds { 225 ≤ length out.old.sheet.now }
-    requires offers_in_bounds { length (legs_from labels.now 0 offers.now) ≤ length out.old.legs.now }
+    requires sheet_fits { 225 ≤ length out.old.sheet.now }
+    requires legs_fit { length (legs_from labels.now 0 offers.now) ≤ length out.old.legs.now }
     ensures answer { result ≡ record { rows = length offers.now; labels = length labels.now; bytes = length (encode (map row_of offers.now)); legs = length (legs_from labels.now 0 offers.now) } }
     ensures sheet { out.new.sheet.now ≡ laid (encode (map row_of offers.now)) out.old.sheet.now }
     ensures legs { out.new.legs.now ≡ laid (legs_from labels.now 0 offers.now) out.old.legs.now }

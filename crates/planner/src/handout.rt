@@ -38,10 +38,10 @@ pub(crate) fn trace_all<S: Copy>(
     offers: &[BestOffer],
     legs: &mut [Leg],
 ) -> usize
-    requires offers_len_bound { length offers.now ≤ 32 }
+    requires few { length offers.now ≤ 32 }
     requires backward { Backward labels.now }
     requires each { Each (λ o. o.label < length labels.now) offers.now }
-    requires offers_in_bounds { length (legs_from labels.now 0 offers.now) ≤ length legs.old }
+    requires legs_fit { length (legs_from labels.now 0 offers.now) ≤ length legs.old }
     ensures end { result ≡ length (legs_from labels.now 0 offers.now) }
     ensures legs { legs.new ≡ laid (legs_from labels.now 0 offers.now) legs.old }
 {

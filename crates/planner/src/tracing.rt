@@ -15,7 +15,7 @@ pub(crate) fn trace<S: Copy>(
 ) -> usize
     requires place_in_bounds { place < length labels.now }
     requires backward { Backward labels.now }
-    requires place_in_bounds_2 { at + length (legs_of labels.now place) ≤ length legs.old }
+    requires legs_fit { at + length (legs_of labels.now place) ≤ length legs.old }
     ensures end { result ≡ at + length (legs_of labels.now place) }
     ensures legs { legs.new ≡ pasted at (map (spelled row) (legs_of labels.now place)) legs.old }
 {

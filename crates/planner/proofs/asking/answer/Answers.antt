@@ -1,4 +1,4 @@
-use Rattle.std.proofs.Common.{◌≡◌, ℕ, ◌+◌, ◌-◌, ◌<◌, ◌≤◌, map, length, take, replicate, Ok, Err, sym, refl, ap, ◌∙◌, subst, arith}
+use Rattle.std.proofs.Common.{◌≡◌, ◌-◌, map, length, take, replicate, Err, sym, ap, ◌∙◌, arith}
 use Rattle.journeys.specs.Labels.{label_at_origin}
 use Rattle.journeys.specs.Scan.{scan_for}
 use Rattle.journeys.specs.Selection.{best_offers}
@@ -51,7 +51,8 @@ print_offers-requires g c =
     let offers : take (c.select-count.result - 0) c.select-count.new.offers ≡ best_offers f q.destination c.written-2.result.now = offers_taken (best_offers f q.destination c.written.result.now) (replicate 32 no_offer) c.select-count.new.offers c.select-count.result c.select-count.ensures.count c.if-count-gt-MOST_ROWS.false c.select-count.ensures.written ∙ ap (best_offers f q.destination) (found ∙ sym again) in
     let lim = limits q c.args.stops.now c.args.paths.now hops (length m.sheet) (length m.legs) c.requires in
     let is = store_is f q c.args.stops.now c.args.paths.now hops (length m.sheet) (length m.legs) (g.T.Timetable.rule c.args.timetable.now) lim m.labels m.aboard s k.1 in
-    printable f q c.args.stops.now c.args.paths.now hops (length m.sheet) (length m.legs) (g.T.Timetable.rule c.args.timetable.now) lim c.written-2.result.now (take (c.select-count.result - 0) c.select-count.new.offers) (again ∙ is) offers (omega (arith, ap length offers, ap (λ ls. length (best_offers f q.destination ls)) again, count, c.if-count-gt-MOST_ROWS.false))
+    let p = printable f q c.args.stops.now c.args.paths.now hops (length m.sheet) (length m.legs) (g.T.Timetable.rule c.args.timetable.now) lim c.written-2.result.now (take (c.select-count.result - 0) c.select-count.new.offers) (again ∙ is) offers (omega (arith, ap length offers, ap (λ ls. length (best_offers f q.destination ls)) again, count, c.if-count-gt-MOST_ROWS.false)) in
+    record { few = p.0; good = p.1; backward = p.2; each = p.3; sheet_fits = p.4; legs_fit = p.5 }
 
 pub returns : goal.returns
 returns g c =

@@ -1,4 +1,4 @@
-use Rattle.std.proofs.Common.{◌≡◌, ◌≤◌, length, take, sym, refl, ap, ◌∙◌, arith, length-take}
+use Rattle.std.proofs.Common.{take, refl, ap, ◌∙◌, arith, length-take}
 use Rattle.timetable.specs.Table.{most_hops}
 use Rattle.journeys.specs.Scan.{no_hop}
 use Rattle.planner.specs.Limits.{hop_within}

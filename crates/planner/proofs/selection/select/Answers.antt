@@ -1,5 +1,5 @@
-use Rattle.std.proofs.Common.{◌≡◌, sym, refl, ap, ◌∙◌, subst, arith}
-use Rattle.journeys.specs.Selection.{best_offers, price_bound}
+use Rattle.std.proofs.Common.{sym, subst, arith}
+use Rattle.journeys.specs.Selection.{best_offers}
 use Rattle.planner.proofs.Picking.{below, below_all, pick_below, pick_step, pick_end, Selected, selected_none, selected_more, selected_count, selected_all}
 use Rattle.planner.proofs.selection.select.Goals as goal
 

@@ -1,4 +1,4 @@
-use Rattle.std.proofs.Common.{◌≡◌, ℕ, ◌-◌, ◌≤◌, length, take, Err, Decides, sym, refl, ap, ◌∙◌, subst, arith}
+use Rattle.std.proofs.Common.{◌≡◌, take, Err, Decides, refl, ap, ◌∙◌, subst}
 use Rattle.fares.specs.declared.fare_state.FareState.{FareState}
 use Rattle.journeys.specs.NetworkFare.{fare_over}
 use Rattle.planner.specs.Comparing.{compared, left_of_second}
@@ -8,7 +8,7 @@ use Rattle.planner.proofs.SameSheets.{same_sheets, compared_ok}
 use Rattle.planner.proofs.two_boards.compare.Goals as goal
 
 pub is_same_sheet-requires : goal.is_same_sheet-requires
-is_same_sheet-requires g c = (c.in-Ok.ensures.promise.bytes_fit, c.in-Ok-ask.ensures.promise.bytes_fit)
+is_same_sheet-requires g c = record { bytes_in_bounds = c.in-Ok.ensures.promise.bytes_fit; other_bytes_in_bounds = c.in-Ok-ask.ensures.promise.bytes_fit }
 
 pub returns-in-Err : goal.returns-in-Err
 returns-in-Err g c =
@@ -30,7 +30,7 @@ returns-in-Err g c =
     let second_outcome = asked second_fare second_hops second_stops second_paths second_question second_memory in
     record {
       answer = ap (λ r. compared r first_outcome.left.sheet second_outcome.answer second_outcome.left.sheet) c.in-Err.ensures.outcome.answer;
-      same-offers = tt;
+      same_offers = tt;
       first = record { labels = c.ask.ensures.outcome.labels; written = c.ask.ensures.outcome.written; aboard = c.ask.ensures.outcome.aboard; sheet = c.ask.ensures.outcome.sheet; legs = c.ask.ensures.outcome.legs };
       second = subst (λ r. Holds (left_of_second r second_memory second_outcome) second_memory.labels second_memory.written second_memory.aboard second_memory.sheet second_memory.legs) c.in-Err.ensures.outcome.answer
           (record { labels = refl; written = refl; aboard = refl; sheet = refl; legs = refl });
@@ -57,7 +57,7 @@ returns-in-Err-ask g c =
     record {
       answer = ap (λ r. compared r first_outcome.left.sheet (Err c.in-Err-ask.refusal) second_outcome.left.sheet) c.in-Ok.ensures.outcome.answer
           ∙ ap (λ r. compared first_outcome.answer first_outcome.left.sheet r second_outcome.left.sheet) c.in-Err-ask.ensures.outcome.answer;
-      same-offers = tt;
+      same_offers = tt;
       first = record { labels = c.ask.ensures.outcome.labels; written = c.ask.ensures.outcome.written; aboard = c.ask.ensures.outcome.aboard; sheet = c.ask.ensures.outcome.sheet; legs = c.ask.ensures.outcome.legs };
       second = subst (λ r. Holds (left_of_second r second_memory second_outcome) c.ask-2.new.store.labels.now c.ask-2.new.store.used c.ask-2.new.aboard c.ask-2.new.out.sheet.now c.ask-2.new.out.legs.now) c.in-Ok.ensures.outcome.answer
           (record { labels = c.ask-2.ensures.outcome.labels; written = c.ask-2.ensures.outcome.written; aboard = c.ask-2.ensures.outcome.aboard; sheet = c.ask-2.ensures.outcome.sheet; legs = c.ask-2.ensures.outcome.legs });
@@ -86,7 +86,7 @@ returns g c =
     let same : Decides c.is_same_sheet.result (take c.in-Ok.answer.bytes bytes ≡ take c.in-Ok-ask.answer.bytes others) = c.is_same_sheet.ensures in
     record {
       answer = compared_ok c.in-Ok.answer c.in-Ok-ask.answer bytes others first_outcome.answer second_outcome.answer first_outcome.left.sheet second_outcome.left.sheet c.is_same_sheet.result c.in-Ok.ensures.outcome.answer c.ask.ensures.outcome.sheet c.in-Ok-ask.ensures.outcome.answer c.ask-2.ensures.outcome.sheet same;
-      same-offers = same_sheets first_setup first_question.destination first_question.rides c.in-Ok.answer bytes c.ask.new.out.legs.now c.in-Ok.ensures.promise second_setup second_question.destination second_question.rides c.in-Ok-ask.answer others c.ask-2.new.out.legs.now c.in-Ok-ask.ensures.promise c.is_same_sheet.result same;
+      same_offers = same_sheets first_setup first_question.destination first_question.rides c.in-Ok.answer bytes c.ask.new.out.legs.now c.in-Ok.ensures.promise second_setup second_question.destination second_question.rides c.in-Ok-ask.answer others c.ask-2.new.out.legs.now c.in-Ok-ask.ensures.promise c.is_same_sheet.result same;
       first = record { labels = c.ask.ensures.outcome.labels; written = c.ask.ensures.outcome.written; aboard = c.ask.ensures.outcome.aboard; sheet = c.ask.ensures.outcome.sheet; legs = c.ask.ensures.outcome.legs };
       second = subst (λ r. Holds (left_of_second r second_memory second_outcome) c.ask-2.new.store.labels.now c.ask-2.new.store.used c.ask-2.new.aboard others c.ask-2.new.out.legs.now) c.in-Ok.ensures.outcome.answer
           (record { labels = c.ask-2.ensures.outcome.labels; written = c.ask-2.ensures.outcome.written; aboard = c.ask-2.ensures.outcome.aboard; sheet = c.ask-2.ensures.outcome.sheet; legs = c.ask-2.ensures.outcome.legs });
