@@ -7,7 +7,7 @@ use Rattle.rule_table.proofs.cover.cover_masks.Goals as goal
 
 pub loop-k-preserved : goal.loop-k-preserved
 loop-k-preserved c =
-    rows_up (λ j. mask_of (covers_ticket c.args.count c.args.rules.now j) 32) c.loop-k.masks c.loop-k.k c.cover-mask.result
+    rows_up (λ j. mask_of (covers_ticket c.args.count c.args.rules.now j) 32) c.loop-k.masks c.loop-k.k c.cover_mask.result
     c.loop-k.invariant.0 c.loop-k-test.true c.loop-k.invariant.1
-    (c.cover-mask.ensures ∙ cover_row c.args.rules.now c.row.result c.steady-masks-steadies.result c.loop-k.k
-    (c.row.ensures ∙ c.reach-masks-reach.ensures c.loop-k.k c.loop-k-test.true) c.steady-masks-steadies.ensures c.args.count c.loop-k-test.true)
+    (c.cover_mask.ensures ∙ cover_row c.args.rules.now c.row.result c.steady_masks-steadies.result c.loop-k.k
+    (c.row.ensures ∙ c.reach_masks-reach.ensures c.loop-k.k c.loop-k-test.true) c.steady_masks-steadies.ensures c.args.count c.loop-k-test.true)

@@ -5,5 +5,5 @@ use Rattle.rule_table.proofs.fixed_tickets.has_one_next.Goals as goal
 
 pub returns : goal.returns
 returns c =
-    ap₂ eqb (c.next-ticket.ensures ∙ ap (λ g. ticket_after c.args.rules.now c.args.m g c.args.event) (same_gauges refl refl refl refl))
-    (c.next-ticket-2.ensures ∙ ap (λ g. ticket_after c.args.rules.now c.args.m g c.args.event) (same_gauges refl refl refl refl))
+    ap₂ eqb (c.next_ticket.ensures ∙ ap (λ g. ticket_after c.args.rules.now c.args.m g c.args.event) (same_gauges refl refl refl refl))
+    (c.next_ticket-2.ensures ∙ ap (λ g. ticket_after c.args.rules.now c.args.m g c.args.event) (same_gauges refl refl refl refl))

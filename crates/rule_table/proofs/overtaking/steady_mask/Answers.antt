@@ -11,7 +11,7 @@ extended-mask-requires c = (c.loop-n-test.true, subst (λ (x : ℕ). x < 2 ^ c.l
 
 pub loop-n-preserved : goal.loop-n-preserved
 loop-n-preserved c =
-    mask_more (steady_step c.args.rules.now c.args.reach c.args.m) c.loop-n.n c.loop-n.mask c.extended-mask.result c.is-steady.result c.loop-n.invariant c.is-steady.ensures c.extended-mask.ensures
+    mask_more (steady_step c.args.rules.now c.args.reach c.args.m) c.loop-n.n c.loop-n.mask c.extended-mask.result c.is_steady.result c.loop-n.invariant c.is_steady.ensures c.extended-mask.ensures
 
 pub returns : goal.returns
 returns c = mask_done (steady_step c.args.rules.now c.args.reach c.args.m) c.loop-n.n c.loop-n.mask c.loop-n.auto.n-end c.loop-n-test.false c.loop-n.invariant

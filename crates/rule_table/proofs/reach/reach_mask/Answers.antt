@@ -11,7 +11,7 @@ extended-mask-requires c = (c.loop-n-test.true, subst (λ (x : ℕ). x < 2 ^ c.l
 
 pub loop-n-preserved : goal.loop-n-preserved
 loop-n-preserved c =
-    mask_more (reach_step c.args.reach.now c.args.rules.now c.args.k) c.loop-n.n c.loop-n.mask c.extended-mask.result c.reaches-by.result c.loop-n.invariant c.reaches-by.ensures c.extended-mask.ensures
+    mask_more (reach_step c.args.reach.now c.args.rules.now c.args.k) c.loop-n.n c.loop-n.mask c.extended-mask.result c.reaches_by.result c.loop-n.invariant c.reaches_by.ensures c.extended-mask.ensures
 
 pub returns : goal.returns
 returns c = mask_done (reach_step c.args.reach.now c.args.rules.now c.args.k) c.loop-n.n c.loop-n.mask c.loop-n.auto.n-end c.loop-n-test.false c.loop-n.invariant

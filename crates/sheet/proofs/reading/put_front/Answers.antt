@@ -13,11 +13,11 @@ module _ (rows found front : List Row) (count : ℕ) (within : count ≤ length 
       let same : count - 0 ≡ count = omega arith in
       ap (λ l. l ++ drop (count - 0) rows) copied ∙ ap (λ n. take n found ++ drop n rows) same ∙ ap (λ n. take count found ++ drop n rows) (sym long)
 
-  in-front : take count (front ++ drop (count - 0) rows) ≡ take count found
-  in-front = ap (take count) fronted ∙ take_at (take count found) (drop (length (take count found)) rows) count long
+  in_front : take count (front ++ drop (count - 0) rows) ≡ take count found
+  in_front = ap (take count) fronted ∙ take_at (take count found) (drop (length (take count found)) rows) count long
 
 pub returns : goal.returns
 returns c = record {
   left = fronted c.args.rows.now c.args.found.now c.copy_from_slice.new.self c.args.count c.requires.found c.copy_from_slice.ensures.after;
-  front = in-front c.args.rows.now c.args.found.now c.copy_from_slice.new.self c.args.count c.requires.found c.copy_from_slice.ensures.after;
+  front = in_front c.args.rows.now c.args.found.now c.copy_from_slice.new.self c.args.count c.requires.found c.copy_from_slice.ensures.after;
 }

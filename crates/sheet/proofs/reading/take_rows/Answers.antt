@@ -44,13 +44,13 @@ module _ (sheet : List ℕ) (found : List Row) (before : Option Row) (rest : Lis
       (few, sym (length-take-le count found room), done, sheet_decoded sheet (take count found) done, readable sheet (take count found) done)
   ends false e = refuses sheet NoSheet (is ∙ some_left was found before rest count k so_far past (eqb-false (length rest) 0 e))
 
-  pub read-ends : (r : Result ℕ Refusal) → r ≡ cond (eqb (length rest) 0) (Ok count) (Err NoSheet) → Taken sheet found r
-  read-ends r e = subst (Taken sheet found) (sym e) (ends (eqb (length rest) 0) refl)
+  pub read_ends : (r : Result ℕ Refusal) → r ≡ cond (eqb (length rest) 0) (Ok count) (Err NoSheet) → Taken sheet found r
+  read_ends r e = subst (Taken sheet found) (sym e) (ends (eqb (length rest) 0) refl)
 
 pub returns : goal.returns
 returns c =
     let sheet = c.args.sheet.now in
     let found = c.loop-k.found in
     let few : get_or sheet 0 0 ≤ 32 = leb-true (get_or sheet 0 0) 32 (sym c.if-not-is_count.ensures) in
-    read-ends sheet found c.loop-k.before c.loop-k.rest.now (get_or sheet 0 0) c.loop-k.k _ c.loop-k.invariant c.loop-k-test.false c.loop-k.auto.k-end
+    read_ends sheet found c.loop-k.before c.loop-k.rest.now (get_or sheet 0 0) c.loop-k.k _ c.loop-k.invariant c.loop-k-test.false c.loop-k.auto.k-end
     few (omega arith) (counted sheet (omega (arith, ltb-true, ltb-false)) few) c.ended.result c.ended.ensures

@@ -24,7 +24,7 @@ turn : (rows : List Row) (d : Row) (start sheet sheet' : List ℕ) (end end' i :
     → i < length rows → length rows ≤ 32 → 225 ≤ length start
     → end' ≡ end + length (encode_row (get_or rows i d)) → sheet' ≡ pasted end (encode_row (get_or rows i d)) sheet
     → (end' ≡ 1 + length (flat_map encode_row (take (i + 1) rows))) × (sheet' ≡ pasted 1 (flat_map encode_row (take (i + 1) rows)) start)
-turn rows d start sheet sheet' end end' i is was lt few_rows room put-end put_sheet =
+turn rows d start sheet sheet' end end' i is was lt few_rows room put_end put_sheet =
     let front = flat_map encode_row (take i rows) in
     let row = encode_row (get_or rows i d) in
     let longer : length (front ++ row) ≡ length front + length row = length-append front row in
