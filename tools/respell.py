@@ -34,7 +34,7 @@ OTHER = {
     "of-first-trip": "hops_of_first_trip",
     "scan-refusal": "refusal_of_scan",
     "network-fault": "fault_of_network",
-    "on-foot": "time_on_foot",
+    "on-foot": "came_on_foot",
     "origin-label": "label_at_origin",
     "outruns-at": "outrunning_at",
     "overtakes-by": "overtaking_by",

@@ -6,7 +6,7 @@ use Rattle.timetable.specs.declared.hops.Hop.{Hop}
 use Rattle.journeys.specs.declared.label.Label.{Label}
 use Rattle.journeys.specs.Lists.{Somewhere, Each}
 use Rattle.journeys.specs.Journey.{Setup, hop_in}
-use Rattle.journeys.specs.Labels.{time_on_foot, label_by_walk, label_by_ride, fresh}
+use Rattle.journeys.specs.Labels.{came_on_foot, label_by_walk, label_by_ride, fresh}
 use Rattle.journeys.specs.Endless.{Pass, walk∞, walk_on∞, walks∞, alight∞, hop∞, carried∞, pass∞, scan∞, first∞}
 use Rattle.journeys.proofs.Lists.{Grown, grown_none, grown_trans, grown_some, grown_cases, foldi_grown, some_imp, some_get, grown_imp, each_imp, grown_each}
 use Rattle.journeys.proofs.Meets.{offer_grown}
@@ -15,14 +15,14 @@ abbrev pub Of : {S : Type 0} → ℕ → Label S → Type 0
 Of k l = l.rides ≡ k
 
 abbrev pub OnFoot : {S : Type 0} → ℕ → Label S → Type 0
-OnFoot k l = (time_on_foot l.way ≡ true) × (l.rides ≡ k)
+OnFoot k l = (came_on_foot l.way ≡ true) × (l.rides ≡ k)
 
 module _ {S : Type 0} (w : Setup S) where
   walk_one_grown : (k j : ℕ) (l : Label S) → l.rides ≡ k → (i : ℕ) (f : Footpath) (st : List (Label S)) → Grown (OnFoot k) st (walk∞ w j l i f st)
   walk_one_grown k j l r i f st = cond_both (eqb f.from l.stop) _ st (Grown (OnFoot k) st) (λ _. offer_grown w (OnFoot k) (label_by_walk j l i f) st (refl, r)) (λ _. grown_none (OnFoot k) st)
 
   foot_one_grown : (k j : ℕ) (l : Label S) (st : List (Label S)) → Grown (OnFoot k) st (walk_on∞ w k j l st)
-  foot_one_grown k j l st = cond_both (fresh k l) _ st (Grown (OnFoot k) st) (λ e. foldi_grown (OnFoot k) (walk∞ w j l) (walk_one_grown k j l (eqb-true _ _ (and_parts (eqb l.rides k) (not (time_on_foot l.way)) e).0)) 0 w.paths st) (λ _. grown_none (OnFoot k) st)
+  foot_one_grown k j l st = cond_both (fresh k l) _ st (Grown (OnFoot k) st) (λ e. foldi_grown (OnFoot k) (walk∞ w j l) (walk_one_grown k j l (eqb-true _ _ (and_parts (eqb l.rides k) (not (came_on_foot l.way)) e).0)) 0 w.paths st) (λ _. grown_none (OnFoot k) st)
 
   pub foot_grown : (k : ℕ) (st : List (Label S)) → Grown (OnFoot k) st (walks∞ w k st)
   unfolding walks∞
@@ -82,10 +82,10 @@ module _ {S : Type 0} (w : Setup S) where
   scan_rides (suc n) = grown_each (Of (suc n)) (λ l. l.rides ≤ suc n) (λ l h. omega arith) (scan∞ w n) (scan∞ w (suc n)) (round_grown n) (each_imp (λ l. l.rides ≤ n) (λ l. l.rides ≤ suc n) (λ l h. omega arith) (scan∞ w n) (scan_rides n))
 
   -- a label of the store that is not on foot was there before the walks of its round
-  pub before_walks : (Q : Label S → Type 0) → ((l : Label S) → Q l → time_on_foot l.way ≡ false) → (k : ℕ) → Somewhere Q (scan∞ w k) → Somewhere Q (ridden k)
+  pub before_walks : (Q : Label S → Type 0) → ((l : Label S) → Q l → came_on_foot l.way ≡ false) → (k : ℕ) → Somewhere Q (scan∞ w k) → Somewhere Q (ridden k)
   before_walks Q h k s = elim (grown_cases (OnFoot k) Q (ridden k) (scan∞ w k) (walks k) s) [
     | inl t ↦ t
-    | inr t ↦ (let x = some_get (λ l. OnFoot k l × Q l) (scan∞ w k) t in absurd (both_ways (time_on_foot x.0.way) (h x.0 x.1.1) x.1.0.0))
+    | inr t ↦ (let x = some_get (λ l. OnFoot k l × Q l) (scan∞ w k) t in absurd (both_ways (came_on_foot x.0.way) (h x.0 x.1.1) x.1.0.0))
   ]
     where
       walks : (n : ℕ) → Grown (OnFoot n) (ridden n) (scan∞ w n)

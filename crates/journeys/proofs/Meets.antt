@@ -7,13 +7,13 @@ use Rattle.journeys.specs.Lists.{any, Somewhere}
 use Rattle.journeys.specs.Fare.{FareModel, FareLaws}
 use Rattle.journeys.specs.Journey.{Setup, Place}
 use Rattle.journeys.specs.Fare.{boarded}
-use Rattle.journeys.specs.Labels.{time_on_foot, covers}
+use Rattle.journeys.specs.Labels.{came_on_foot, covers}
 use Rattle.journeys.specs.Endless.{offer∞}
 use Rattle.journeys.proofs.Lists.{some_imp, some_left, some_right, any_some, Grown, grown_none, grown_one}
 
 -- the place in a journey that a label stands for
 abbrev pub place : {S : Type 0} → Label S → Place S
-place l = record { stop = l.stop; time = l.time; rides = l.rides; foot = time_on_foot l.way; state = l.state }
+place l = record { stop = l.stop; time = l.time; rides = l.rides; foot = came_on_foot l.way; state = l.state }
 
 abbrev pub Matches : {S : Type 0} → FareModel S → S → S → Type 0
 Matches f s t = (s ≡ t) ⊎ (f.covers s t ≡ true)
@@ -23,7 +23,7 @@ pub record Meets {S : Type 0} (f : FareModel S) (l : Label S) (p : Place S) : Ty
   pub time : l.time ≤ p.time
   pub rides : l.rides ≤ p.rides
   pub state : Matches f l.state p.state
-  pub foot : p.foot ≡ false → time_on_foot l.way ≡ false
+  pub foot : p.foot ≡ false → came_on_foot l.way ≡ false
   pub none : l.rides ≡ 0 → p.rides ≡ 0
 
 -- what a label that covers another is to it
@@ -32,7 +32,7 @@ pub record Over {S : Type 0} (f : FareModel S) (l c : Label S) : Type 0 where
   pub time : l.time ≤ c.time
   pub rides : l.rides ≤ c.rides
   pub state : f.covers l.state c.state ≡ true
-  pub foot : time_on_foot c.way ≡ false → time_on_foot l.way ≡ false
+  pub foot : came_on_foot c.way ≡ false → came_on_foot l.way ≡ false
   pub none : l.rides ≡ 0 → c.rides ≡ 0
 
 module _ {S : Type 0} (f : FareModel S) where
@@ -42,13 +42,13 @@ module _ {S : Type 0} (f : FareModel S) where
       let b = and_parts (leb l.time c.time) _ a.1 in
       let d = and_parts (leb l.rides c.rides) _ b.1 in
       let g = and_parts (f.covers l.state c.state) _ d.1 in
-      let h = and_parts (not (time_on_foot l.way) || time_on_foot c.way) _ g.1 in
+      let h = and_parts (not (came_on_foot l.way) || came_on_foot c.way) _ g.1 in
       record {
         stop = eqb-true _ _ a.0;
         time = leb-true _ _ b.0;
         rides = leb-true _ _ d.0;
         state = g.0;
-        foot = λ n. ⊎_elim (not-true (time_on_foot l.way)) (λ y. absurd (both_ways (time_on_foot c.way) n y)) (or_cases _ _ h.0);
+        foot = λ n. ⊎_elim (not-true (came_on_foot l.way)) (λ y. absurd (both_ways (came_on_foot c.way) n y)) (or_cases _ _ h.0);
         none = λ z. ⊎_elim (λ y. absurd (both_ways (eqb l.rides 0) (not-true _ y) (eq-eqb _ _ z))) (λ y. eqb-true _ _ y) (or_cases _ _ h.1);
       }
 

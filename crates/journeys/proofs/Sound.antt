@@ -12,7 +12,7 @@ use Rattle.journeys.specs.declared.label.Way.TheVariants.{Origin, Walked, Rode}
 use Rattle.journeys.specs.Lists.{foldi, any, Each, Eachi}
 use Rattle.journeys.specs.Journey.{Setup, Place, through, hop_in, path_in, no_path, after, start, last, LegOk, Journey}
 use Rattle.journeys.specs.Fare.{boarded}
-use Rattle.journeys.specs.Labels.{time_on_foot, covers, label_by_walk, label_by_ride, passenger, fresh, rides_on, boards}
+use Rattle.journeys.specs.Labels.{came_on_foot, covers, label_by_walk, label_by_ride, passenger, fresh, rides_on, boards}
 use Rattle.journeys.specs.Endless.{Pass, offer∞, walk∞, walk_on∞, walks∞, kept∞, alight∞, hop∞, carried∞, pass∞, scan∞, first∞, board∞, seat∞}
 use Rattle.journeys.specs.Traces.{legs_by, traces, legs_of}
 use Rattle.journeys.proofs.Meets.{place}
@@ -70,7 +70,7 @@ module _ {S : Type 0} (w : Setup S) (timely : Timely w) where
   from_offer st b c f before r = record { grown = grown_trans Any st b (offer∞ w c b) f.grown (offer_grown w Any c b tt); sound = offer_sound b c f.sound before r }
 
   -- walks
-  walk_one_sound : (st : List (Label S)) (j : ℕ) (l : Label S) → Known st j l → time_on_foot l.way ≡ false → (i : ℕ) (f : Footpath) → (i < length w.paths) × (f ≡ path_in w i) → (b : List (Label S)) → From st b → From st (walk∞ w j l i f b)
+  walk_one_sound : (st : List (Label S)) (j : ℕ) (l : Label S) → Known st j l → came_on_foot l.way ≡ false → (i : ℕ) (f : Footpath) → (i < length w.paths) × (f ≡ path_in w i) → (b : List (Label S)) → From st b → From st (walk∞ w j l i f b)
   walk_one_sound st j l k n i f e b s = cond_both (eqb f.from l.stop) (offer∞ w (label_by_walk j l i f) b) b (From st)
       (λ t. from_offer st b (label_by_walk j l i f) s (known_grown st b j l s.grown k).is (real_push (legs_of b j) l (walk i) (label_by_walk j l i f) (known_grown st b j l s.grown k).real
       (record { rested = n; is = e.0; here = ap (λ (g : Footpath). g.from) (sym e.1) ∙ eqb-true _ _ t })
@@ -89,7 +89,7 @@ module _ {S : Type 0} (w : Setup S) (timely : Timely w) where
   foot_one_sound : (st : List (Label S)) (k j : ℕ) (l : Label S) → Known st j l → (b : List (Label S)) → From st b → From st (walk_on∞ w k j l b)
   foot_one_sound st k j l n b s = cond_both (fresh k l) (foldi (walk∞ w j l) 0 w.paths b) b (From st)
       (λ t. foldi_each (walk∞ w j l) (λ i f. (i < length w.paths) × (f ≡ path_in w i)) (From st)
-      (λ i f c e s. walk_one_sound st j l n (not-true (time_on_foot l.way) (and_parts (eqb l.rides k) (not (time_on_foot l.way)) t).1) i f e c s) 0 w.paths b paths_each s)
+      (λ i f c e s. walk_one_sound st j l n (not-true (came_on_foot l.way) (and_parts (eqb l.rides k) (not (came_on_foot l.way)) t).1) i f e c s) 0 w.paths b paths_each s)
       (λ _. s)
 
   foot_sound : (k : ℕ) (st : List (Label S)) → Sound st → Sound (walks∞ w k st)

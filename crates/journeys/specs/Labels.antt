@@ -10,10 +10,10 @@ use Rattle.journeys.specs.declared.label.Passenger.{Passenger}
 use Rattle.journeys.specs.Fare.{FareModel, boarded}
 
 -- came by a footpath
-abbrev pub time_on_foot : Way → Bool
-time_on_foot Origin = false
-time_on_foot (Walked path from) = true
-time_on_foot (Rode first last from) = false
+abbrev pub came_on_foot : Way → Bool
+came_on_foot Origin = false
+came_on_foot (Walked path from) = true
+came_on_foot (Rode first last from) = false
 
 -- a label covers another at its stop: no later, no more rides, its state covering;
 -- one on foot covers only such, and one of no rides only such
@@ -23,7 +23,7 @@ covers f l c =
     && (nat_le l.time c.time
     && (nat_le l.rides c.rides
     && (f.covers l.state c.state
-    && ((not (time_on_foot l.way) || time_on_foot c.way) && (not (l.rides == 0) || c.rides == 0)))))
+    && ((not (came_on_foot l.way) || came_on_foot c.way) && (not (l.rides == 0) || c.rides == 0)))))
 
 -- so much later, held at the largest time that a label can have
 abbrev pub later : ℕ → ℕ → ℕ
@@ -53,7 +53,7 @@ rides_on f h e = record { state = f.hop h e.state; label = e.label; first = e.fi
 
 -- reached in round k, and not on foot
 abbrev pub fresh : {S : Type 0} → ℕ → Label S → Bool
-fresh k l = l.rides == k && not (time_on_foot l.way)
+fresh k l = l.rides == k && not (came_on_foot l.way)
 
 -- may board the hop h in round k: reached in the round before, at its from stop, no later than it departs
 abbrev pub boards : {S : Type 0} → ℕ → Hop → Label S → Bool

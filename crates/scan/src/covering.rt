@@ -1,11 +1,11 @@
 ghost use Rattle.std.specs.Prelude.{◌≡◌};
-ghost use Rattle.journeys.specs.Labels.{time_on_foot, covers};
+ghost use Rattle.journeys.specs.Labels.{came_on_foot, covers};
 ghost use Rattle.journeys.specs.Lists.{any};
 
 use journeys::{Fare, Label, Way};
 
 pub(crate) fn on_foot(way: Way) -> bool
-    ensures { result ≡ time_on_foot way }
+    ensures { result ≡ came_on_foot way }
 {
     match way {
         Way::Origin => false,
