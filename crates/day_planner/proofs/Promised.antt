@@ -1,5 +1,5 @@
 -- The promise, for the defined outcome of a question after any log.
-use Rattle.std.proofs.Common.{◌≡◌, ℕ, ◌<◌, true, List, length, Some, None, Option, Result, sym, refl, ap, subst}
+use Rattle.std.proofs.Common.{◌≡◌, ◌<◌, true, List, length, Some, None, Option, Result, refl}
 use Rattle.timetable.specs.declared.hops.Hop.{Hop}
 use Rattle.timetable.specs.Rule.{keeps}
 use Rattle.timetable.specs.Table.{trips_of}
@@ -8,7 +8,7 @@ use Rattle.journeys.specs.declared.question.Question.{Question}
 use Rattle.journeys.specs.Fare.{FareLaws}
 use Rattle.journeys.specs.Scan.{scan_for}
 use Rattle.journeys.specs.Selection.{price_bound}
-use Rattle.service_day.specs.DayStates.{first_day, meant_on}
+use Rattle.service_day.specs.DayStates.{first_day}
 use Rattle.service_day.specs.LayerRule.{both_keep}
 use Rattle.planner.specs.declared.answer.Answer.{Answer}
 use Rattle.planner.specs.declared.refusal.Refusal.{Refusal}

@@ -1,16 +1,15 @@
 -- Two sheets are the same bytes exactly where the two questions have the same best offers.
-use Rattle.std.proofs.Common.{◌≡◌, ℕ, ◌-◌, ◌<◌, ◌≤◌, Bool, true, false, ◌⊎◌, List, [], ◌∷◌, ◌++◌, map, length, take, Ok, Err, Decides, Result, sym, refl, ap, ◌∙◌, subst, ap₂, inl, inr, arith}
+use Rattle.std.proofs.Common.{◌≡◌, ℕ, ◌-◌, ◌<◌, Bool, true, false, List, [], ◌∷◌, map, take, Ok, Decides, Result, sym, refl, ap, ◌∙◌, subst, ap₂, inl, inr, arith}
 use Rattle.std.specs.Str.{bytes_eq}
 use Rattle.std.proofs.lemmas.Slice.Eq.{bytes_eq-Decides}
 use Rattle.journeys.specs.declared.leg.Leg.{Leg as SheetLeg}
 use Rattle.journeys.specs.Journey.{Setup}
-use Rattle.journeys.specs.Lists.{Each, Somewhere}
+use Rattle.journeys.specs.Lists.{Somewhere}
 use Rattle.journeys.specs.Offers.{Offer, Best}
-use Rattle.journeys.proofs.Lists.{some_imp, some_map, some_out, some_each}
+use Rattle.journeys.proofs.Lists.{some_map, some_out, some_each}
 use Rattle.sheet.specs.declared.rows.Row.{Row}
 use Rattle.sheet.specs.Format.{encode}
-use Rattle.sheet.specs.Reading.{decode}
-use Rattle.sheet.specs.Rows.{Good, Ordered, Follows}
+use Rattle.sheet.specs.Rows.{Ordered}
 use Rattle.sheet.proofs.Sheets.{encode_one}
 use Rattle.planner.specs.declared.answer.Answer.{Answer}
 use Rattle.planner.specs.declared.refusal.Refusal.{Refusal}

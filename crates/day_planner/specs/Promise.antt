@@ -1,6 +1,6 @@
 -- What is promised of a question on any day, and so after any log: when it is accepted, and what its sheet and legs show.
 -- Assumes nothing.
-use Rattle.std.specs.Prelude.{◌≡◌, List, is_ok, Decides, Result}
+use Rattle.std.specs.Prelude.{List, is_ok, Decides, Result}
 use Rattle.timetable.specs.declared.hops.Hop.{Hop}
 use Rattle.fares.specs.declared.fare_state.FareState.{FareState}
 use Rattle.journeys.specs.declared.question.Question.{Question}

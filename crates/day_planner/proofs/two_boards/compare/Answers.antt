@@ -1,4 +1,4 @@
-use Rattle.std.proofs.Common.{◌≡◌, ◌<◌, take, Err, Decides, sym, refl, ap, ◌∙◌, arith}
+use Rattle.std.proofs.Common.{◌≡◌, ◌<◌, take, Err, Decides, ap, ◌∙◌, arith}
 use Rattle.fares.specs.declared.fare_state.FareState.{FareState}
 use Rattle.journeys.specs.Selection.{price_bound}
 use Rattle.journeys.proofs.LawfulFare.{fare_laws}
@@ -13,7 +13,7 @@ use Rattle.day_planner.proofs.SameSheets.{same_sheets, compared_ok}
 use Rattle.day_planner.proofs.two_boards.compare.Goals as goal
 
 pub is_same_sheet-requires : goal.is_same_sheet-requires
-is_same_sheet-requires g c = (c.in-Ok.ensures.promise.shown.bytes_fit, c.in-Ok-ask_after.ensures.promise.shown.bytes_fit)
+is_same_sheet-requires g c = record { bytes_in_bounds = c.in-Ok.ensures.promise.shown.bytes_fit; other_bytes_in_bounds = c.in-Ok-ask_after.ensures.promise.shown.bytes_fit }
 
 pub returns-in-Err : goal.returns-in-Err
 returns-in-Err g c =
@@ -29,11 +29,11 @@ returns-in-Err g c =
     let second_laws = fare_laws second_basis.tariff second_basis.measure second_basis.stops (g.met.G.LawfulTariff.lawful c.args.second.tariff) (g.met.N.LawfulMeasure.lawful c.args.second.measure) in
     record {
       answer = ap (λ r. compared_sheets r first_outcome.left.sheet second_outcome.answer second_outcome.left.sheet) c.in-Err.ensures.outcome.answer;
-      same-offers = tt;
-      first-left = left_is first_outcome c.ask_after.result (lent c.ask_after.new.store c.ask_after.new.aboard c.ask_after.new.out) c.ask_after.ensures.outcome;
-      second-left = ap (λ r. left_of_second r second_memory second_outcome) c.in-Err.ensures.outcome.answer;
-      first-promise = promised_after first_basis (g.T.Timetable.rule c.args.first.timetable) first_laws first_low (log_of c.args.first) c.args.first.question first_memory;
-      second-promise = promised_after second_basis (g.U.Timetable.rule c.args.second.timetable) second_laws second_low (log_of c.args.second) c.args.second.question second_memory;
+      same_offers = tt;
+      first_left = left_is first_outcome c.ask_after.result (lent c.ask_after.new.store c.ask_after.new.aboard c.ask_after.new.out) c.ask_after.ensures.outcome;
+      second_left = ap (λ r. left_of_second r second_memory second_outcome) c.in-Err.ensures.outcome.answer;
+      first_promise = promised_after first_basis (g.T.Timetable.rule c.args.first.timetable) first_laws first_low (log_of c.args.first) c.args.first.question first_memory;
+      second_promise = promised_after second_basis (g.U.Timetable.rule c.args.second.timetable) second_laws second_low (log_of c.args.second) c.args.second.question second_memory;
     }
 
 pub returns-in-Err-ask_after : goal.returns-in-Err-ask_after
@@ -51,11 +51,11 @@ returns-in-Err-ask_after g c =
     record {
       answer = ap (λ r. compared_sheets r first_outcome.left.sheet (Err c.in-Err-ask_after.refusal) second_outcome.left.sheet) c.in-Ok.ensures.outcome.answer
           ∙ ap (λ r. compared_sheets first_outcome.answer first_outcome.left.sheet r second_outcome.left.sheet) c.in-Err-ask_after.ensures.outcome.answer;
-      same-offers = tt;
-      first-left = left_is first_outcome c.ask_after.result (lent c.ask_after.new.store c.ask_after.new.aboard c.ask_after.new.out) c.ask_after.ensures.outcome;
-      second-left = left_is second_outcome c.ask_after-2.result (lent c.ask_after-2.new.store c.ask_after-2.new.aboard c.ask_after-2.new.out) c.ask_after-2.ensures.outcome ∙ ap (λ r. left_of_second r second_memory second_outcome) c.in-Ok.ensures.outcome.answer;
-      first-promise = promised_after first_basis (g.T.Timetable.rule c.args.first.timetable) first_laws first_low (log_of c.args.first) c.args.first.question first_memory;
-      second-promise = promised_after second_basis (g.U.Timetable.rule c.args.second.timetable) second_laws second_low (log_of c.args.second) c.args.second.question second_memory;
+      same_offers = tt;
+      first_left = left_is first_outcome c.ask_after.result (lent c.ask_after.new.store c.ask_after.new.aboard c.ask_after.new.out) c.ask_after.ensures.outcome;
+      second_left = left_is second_outcome c.ask_after-2.result (lent c.ask_after-2.new.store c.ask_after-2.new.aboard c.ask_after-2.new.out) c.ask_after-2.ensures.outcome ∙ ap (λ r. left_of_second r second_memory second_outcome) c.in-Ok.ensures.outcome.answer;
+      first_promise = promised_after first_basis (g.T.Timetable.rule c.args.first.timetable) first_laws first_low (log_of c.args.first) c.args.first.question first_memory;
+      second_promise = promised_after second_basis (g.U.Timetable.rule c.args.second.timetable) second_laws second_low (log_of c.args.second) c.args.second.question second_memory;
     }
 
 pub returns : goal.returns
@@ -75,10 +75,10 @@ returns g c =
     let same : Decides c.is_same_sheet.result (take c.in-Ok.answer.bytes bytes ≡ take c.in-Ok-ask_after.answer.bytes others) = c.is_same_sheet.ensures in
     record {
       answer = compared_ok c.in-Ok.answer c.in-Ok-ask_after.answer bytes others first_outcome.answer second_outcome.answer first_outcome.left.sheet second_outcome.left.sheet c.is_same_sheet.result c.in-Ok.ensures.outcome.answer c.ask_after.ensures.outcome.sheet c.in-Ok-ask_after.ensures.outcome.answer c.ask_after-2.ensures.outcome.sheet same;
-      same-offers = same_sheets (journeys_over first_basis (hops_after first_basis.hops (log_of c.args.first)) c.args.first.question) c.args.first.question.destination c.args.first.question.rides c.in-Ok.answer bytes c.ask_after.new.out.legs.now c.in-Ok.ensures.promise.shown
+      same_offers = same_sheets (journeys_over first_basis (hops_after first_basis.hops (log_of c.args.first)) c.args.first.question) c.args.first.question.destination c.args.first.question.rides c.in-Ok.answer bytes c.ask_after.new.out.legs.now c.in-Ok.ensures.promise.shown
           (journeys_over second_basis (hops_after second_basis.hops (log_of c.args.second)) c.args.second.question) c.args.second.question.destination c.args.second.question.rides c.in-Ok-ask_after.answer others c.ask_after-2.new.out.legs.now c.in-Ok-ask_after.ensures.promise.shown c.is_same_sheet.result same;
-      first-left = left_is first_outcome c.ask_after.result (lent c.ask_after.new.store c.ask_after.new.aboard c.ask_after.new.out) c.ask_after.ensures.outcome;
-      second-left = left_is second_outcome c.ask_after-2.result (lent c.ask_after-2.new.store c.ask_after-2.new.aboard c.ask_after-2.new.out) c.ask_after-2.ensures.outcome ∙ ap (λ r. left_of_second r second_memory second_outcome) c.in-Ok.ensures.outcome.answer;
-      first-promise = promised_after first_basis (g.T.Timetable.rule c.args.first.timetable) first_laws first_low (log_of c.args.first) c.args.first.question first_memory;
-      second-promise = promised_after second_basis (g.U.Timetable.rule c.args.second.timetable) second_laws second_low (log_of c.args.second) c.args.second.question second_memory;
+      first_left = left_is first_outcome c.ask_after.result (lent c.ask_after.new.store c.ask_after.new.aboard c.ask_after.new.out) c.ask_after.ensures.outcome;
+      second_left = left_is second_outcome c.ask_after-2.result (lent c.ask_after-2.new.store c.ask_after-2.new.aboard c.ask_after-2.new.out) c.ask_after-2.ensures.outcome ∙ ap (λ r. left_of_second r second_memory second_outcome) c.in-Ok.ensures.outcome.answer;
+      first_promise = promised_after first_basis (g.T.Timetable.rule c.args.first.timetable) first_laws first_low (log_of c.args.first) c.args.first.question first_memory;
+      second_promise = promised_after second_basis (g.U.Timetable.rule c.args.second.timetable) second_laws second_low (log_of c.args.second) c.args.second.question second_memory;
     }

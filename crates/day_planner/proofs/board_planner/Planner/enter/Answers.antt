@@ -1,4 +1,4 @@
-use Rattle.std.proofs.Common.{sym, refl, ap, ◌∙◌}
+use Rattle.std.proofs.Common.{sym, ap, ◌∙◌}
 use Rattle.timetable.specs.Table.{trips_of}
 use Rattle.fares.specs.declared.fare_state.FareState.{FareState}
 use Rattle.service_day.specs.Days.{delaying}

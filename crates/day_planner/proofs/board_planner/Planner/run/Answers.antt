@@ -1,4 +1,4 @@
-use Rattle.std.proofs.Common.{◌≡◌, refl, ap, ◌∙◌}
+use Rattle.std.proofs.Common.{refl, ap, ◌∙◌}
 use Rattle.fares.specs.declared.fare_state.FareState.{FareState}
 use Rattle.planner.specs.Lent.{lent}
 use Rattle.planner.specs.Outcome.{Memory}
