@@ -136,7 +136,9 @@ impl Case<'_> {
     // Asks over other hops than the case's own.
     pub(crate) fn ask_over(&self, hops: &[Hop]) -> Result<Printed, Fail> {
         let mut timetable = HopList::empty();
-        assert!(timetable.open(hops).is_ok());
+        if timetable.open(hops).is_err() {
+            return Err(Fail::new("the timetable is refused"));
+        }
         let tariff = tariff()?;
         let board = Board {
             timetable: &timetable,
@@ -147,8 +149,12 @@ impl Case<'_> {
             stops: &self.stops,
             paths: self.paths,
         };
-        assert!(self.labels <= MOST_LABELS && self.aboard <= MOST_ABOARD);
-        assert!(self.bytes <= SHEET_BYTES && self.legs <= MOST_LEGS);
+        if self.labels > MOST_LABELS || self.aboard > MOST_ABOARD {
+            return Err(Fail::new("more places than there are"));
+        }
+        if self.bytes > SHEET_BYTES || self.legs > MOST_LEGS {
+            return Err(Fail::new("more paper than there is"));
+        }
         let mut labels = [NO_LABEL; MOST_LABELS];
         let mut store = LabelStore::over(&mut labels[0..self.labels]);
         let mut aboard = [NO_PASSENGER; MOST_ABOARD];
@@ -184,9 +190,12 @@ impl Case<'_> {
         let Ok(answer) = printed.outcome else {
             return Err(Fail::new("refused"));
         };
-        assert_eq!(answer.bytes, sheet.len());
-        assert_eq!(answer.legs, legs.len());
-        assert!(printed.shows(sheet, legs));
+        if answer.bytes != sheet.len() || answer.legs != legs.len() {
+            return Err(Fail::new("another length"));
+        }
+        if !printed.shows(sheet, legs) {
+            return Err(Fail::new("another sheet or other legs"));
+        }
         Ok(answer)
     }
 
@@ -196,7 +205,9 @@ impl Case<'_> {
         let Err(refusal) = printed.outcome else {
             return Err(Fail::new("answered"));
         };
-        assert!(printed.shows(&[], &[]));
+        if !printed.shows(&[], &[]) {
+            return Err(Fail::new("printed at a refusal"));
+        }
         Ok(refusal)
     }
 

@@ -1,7 +1,7 @@
 -- A question without a fault: the limits that it keeps, and so what its scan finds fits the sheet and the legs.
 use Rattle.std.proofs.Common.{◌≡◌, ℕ, zero, suc, ◌*◌, ◌<◌, ◌≤◌, true, List, [], ◌∷◌, map, length, get_or, Some, None, Option, sym, ap, ◌∙◌, subst, subst₂, inl, inr, arith, length-append}
 use lib.ListN.{length-map, get_or-eq_default}
-use Rattle.std.specs.List.{AllByRecursion as All}
+use Rattle.std.specs.List.{AllByRecursion}
 use Rattle.std.proofs.lemmas.Option.{slice_get-get_or}
 use Rattle.std.proofs.lemmas.Bool.{cases_lt, true≢false}
 use Rattle.timetable.specs.declared.hops.Hop.{Hop}
@@ -122,7 +122,7 @@ module _ {S : Type 0} (f : FareModel S) (q : Asked) (stops : List Stop) (paths :
       go None i more = tt
       go (Some r) i more = (i.0, each_imp (λ o. o.price < r.price) (λ o. o.price < bound) (λ o h. omega (arith, i.0)) (picks f q.destination ls n r.price) (more r.price))
 
-  within_range : (os : List BestOffer) → Each (λ o. Handed w q.destination q.rides o (legs_of st o.label)) os → Each (λ o. o.price < price_bound) os → All InRange (map row_of os)
+  within_range : (os : List BestOffer) → Each (λ o. Handed w q.destination q.rides o (legs_of st o.label)) os → Each (λ o. o.price < price_bound) os → AllByRecursion InRange (map row_of os)
   within_range [] a b = tt
   within_range (o ∷ os) a b =
       let t = journey_time w timely (legs_of st o.label) a.0.0.journey in

@@ -1,6 +1,6 @@
 -- Rows that fit one after another, and what that says of them in the words of `Good`.
 use Rattle.std.proofs.Common.{◌≡◌, ℕ, ◌+◌, ◌<◌, ◌≤◌, true, ltb, leb, List, [], ◌∷◌, length, Some, None, Option, sym, refl, ◌∙◌, ⊎_elim, arith}
-use Rattle.std.specs.List.{AllByRecursion as All}
+use Rattle.std.specs.List.{AllByRecursion}
 use Rattle.std.proofs.lemmas.Bool.{ltb-true, lt-ltb, le-leb, and_from, and_parts, cases_Bool, cond-true, cond-false}
 use Rattle.sheet.specs.declared.rows.Row.{Row}
 use Rattle.sheet.specs.Rows.{most_rows, last_arrival, top_price, InRange, Follows, Ordered, Good, within_range, following, fits, fault_from}
@@ -36,7 +36,7 @@ follows_true before row e =
     let t = and_parts (ltb before.arrival row.arrival) (ltb row.price before.price) (and_parts (within_range row) (following (Some before) row) e).1 in
     (ltb-true before.arrival row.arrival t.0, ltb-true row.price before.price t.1)
 
-chain_after : (before : Row) (rows : List Row) → All InRange rows → Ordered (before ∷ rows) → Chain (Some before) rows
+chain_after : (before : Row) (rows : List Row) → AllByRecursion InRange rows → Ordered (before ∷ rows) → Chain (Some before) rows
 chain_after before [] r o = tt
 chain_after before (row ∷ rows) r o =
     (and_from (within_range row) (following (Some before) row) (range_test row r.0) (order_test before row o.0), chain_after row rows r.1 o.1)
@@ -46,7 +46,7 @@ chain_from_good [] h = tt
 chain_from_good (row ∷ rows) h =
     (and_from (within_range row) true (range_test row h.ranges.0) refl, chain_after row rows h.ranges.1 h.order)
 
-chain_ranges : (before : Option Row) (rows : List Row) → Chain before rows → All InRange rows
+chain_ranges : (before : Option Row) (rows : List Row) → Chain before rows → AllByRecursion InRange rows
 chain_ranges before [] h = tt
 chain_ranges before (row ∷ rows) h = (in_range_true before row h.0, chain_ranges (Some row) rows h.1)
 

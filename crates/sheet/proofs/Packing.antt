@@ -1,6 +1,6 @@
 -- One row: its six bytes are packed, and spread again, without loss; and how a loop spreads them, place by place.
 use Rattle.std.proofs.Common.{◌≡◌, ℕ, zero, suc, ◌+◌, ◌-◌, ◌*◌, ◌/◌, ◌%◌, ◌^◌, ◌<◌, ◌≤◌, Bool, true, false, cond, ◌&&◌, eqb, ltb, leb, ◌⊎◌, List, [], ◌∷◌, ◌++◌, length, get_or, take, drop, set, Some, None, Option, sym, refl, ap, ◌∙◌, subst, inl, inr, ⊎_elim, append_assoc, append-nil, pow-suc, arith, pow_mono}
-use Rattle.std.specs.List.{AllByRecursion as All}
+use Rattle.std.specs.List.{AllByRecursion}
 use Rattle.std.proofs.lemmas.Bool.{ltb-true, eq-eqb, ne_eqb, lt-ltb, le-ltb, leb-true, and_from, and_parts, cases_lt, cond-true, cond_both, and_left, cond-false}
 use Rattle.std.proofs.lemmas.List.{take_more, take_more_set, take_all}
 use Rattle.sheet.specs.declared.rows.Row.{Row}
@@ -10,7 +10,7 @@ use Rattle.sheet.specs.Reading.{no_map, bits, after, spread, row_of, fitting, de
 
 -- each of the numbers is a byte's
 abbrev pub Bytes : List ℕ → Type 0
-Bytes bs = All (λ b. b < 256) bs
+Bytes bs = AllByRecursion (λ b. b < 256) bs
 
 pub bits_even : (n m : ℕ) → bits (suc n) (m * 2) ≡ false ∷ bits n m
 unfolding bits

@@ -1,7 +1,7 @@
 -- Which rows a sheet can hold: at most 32, in range, each strictly later and cheaper than the one before.
 -- Assumes nothing.
 use Rattle.std.specs.Prelude.{ℕ, ◌+◌, ◌<◌, ◌≤◌, Bool, true, cond, ◌&&◌, List, [], ◌∷◌, length, Some, None, Option, nat_le, nat_lt}
-use Rattle.std.specs.List.{AllByRecursion as All}
+use Rattle.std.specs.List.{AllByRecursion}
 use Rattle.sheet.specs.declared.rows.Row.{Row}
 
 -- the most rows of a sheet
@@ -33,7 +33,7 @@ Ordered (row ∷ next ∷ rows) = Follows row next × Ordered (next ∷ rows)
 -- rows that a sheet can hold
 pub record Good (rows : List Row) : Type 0 where
   pub few : length rows ≤ most_rows
-  pub ranges : All InRange rows
+  pub ranges : AllByRecursion InRange rows
   pub order : Ordered rows
 
 -- whether a row is in range
