@@ -34,7 +34,7 @@ pub(crate) fn rounds<T: Timetable, F: Fare>(
     limit: u32,
 ) -> Result<Progress, Full>
     requires { written ≤ length labels.old }
-    ensures { Scanned labels.entry.now labels.exit.now aboard.new result (rounds_run (F.Fare.model fare.now) (record { labels = length labels.entry.now; aboard = length aboard.old }) (T.Timetable.hops timetable.now) paths.now (stage_in labels.entry.now aboard.old (record { used = written; count = 0; trip = 0 })) (limit + 1)) }
+    ensures { Scanned labels.old labels.new aboard.new result (rounds_run (F.Fare.model fare.now) (record { labels = length labels.old; aboard = length aboard.old }) (T.Timetable.hops timetable.now) paths.now (stage_in labels.old aboard.old (record { used = written; count = 0; trip = 0 })) (limit + 1)) }
 {
     let mut used = written;
     let mut count = 0;

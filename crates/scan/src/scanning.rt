@@ -32,7 +32,7 @@ pub(crate) fn scan<T: Timetable, F: Fare>(
     departure: u32,
     limit: u32,
 ) -> Result<Progress, Full>
-    ensures { Scanned labels.entry.now labels.exit.now aboard.new result (scan_run (F.Fare.model fare.now) (record { labels = length labels.entry.now; aboard = length aboard.old }) (T.Timetable.hops timetable.now) paths.now (label_at_origin (F.Fare.model fare.now) origin departure) aboard.old limit) }
+    ensures { Scanned labels.old labels.new aboard.new result (scan_run (F.Fare.model fare.now) (record { labels = length labels.old; aboard = length aboard.old }) (T.Timetable.hops timetable.now) paths.now (label_at_origin (F.Fare.model fare.now) origin departure) aboard.old limit) }
 {
     let first = origin_label(fare, origin, departure);
     let Some(written) = offer(fare, labels, 0, first) else {
