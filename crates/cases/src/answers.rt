@@ -1,5 +1,6 @@
-use crate::case::{FERRY, ferry_and, ferry_case, hop};
+use crate::case::{ferry_and, ferry_case};
 use crate::printed::{ride, walk};
+use ferry_cases::{FERRY, hop};
 use journeys::Footpath;
 use std::test::*;
 

@@ -1,15 +1,14 @@
-use crate::case::{FERRY, hop};
-use crate::printed::{BLANK_BYTE, BLANK_LEG, MOST_LEGS, Printed, ride};
+use crate::printed::{BLANK_BYTE, BLANK_LEG, Printed, ride};
 use fares::{FareState, Gauges, Marked, Surcharge};
-use journeys::{Label, Leg, Network, Passenger, Question, Stop, Way};
+use ferry_cases::{FERRY, hop};
+use journeys::{Label, Leg, Network, Passenger, Question, Stop};
 use measures::{Amount, Metres};
-use planner::{Board, Printout, Refusal, ask};
+use planner::{Board, Lent, MOST_LEGS, Printout, Refusal, ask};
 use rule_table::{Rule, RuleTable};
 use scan::LabelStore;
 use sheet::{MOST_ROWS, Row, SHEET_BYTES, write};
-use std::process::Abort;
 use std::test::*;
-use timetable::{Hop, HopList, Timetable};
+use timetable::{Hop, HopList};
 
 const EVERY_EVENT: u16 = 0xffff;
 
@@ -32,20 +31,6 @@ const NO_FARE: MetresState = FareState {
     weight: Amount { value: 0 },
 };
 
-const NO_LABEL: Label<MetresState> = Label {
-    stop: 0,
-    time: 0,
-    rides: 0,
-    state: NO_FARE,
-    way: Way::Origin,
-};
-
-const NO_PASSENGER: Passenger<MetresState> = Passenger {
-    state: NO_FARE,
-    label: 0,
-    first: 0,
-};
-
 // To the ticket for so many times 100 metres.
 fn rule(hundreds: u8) -> Rule {
     Rule {
@@ -63,16 +48,16 @@ fn rule(hundreds: u8) -> Rule {
 
 fn rules() -> [Rule; 31] {
     let mut rules = [rule(1); 31];
-    for k in 0..31u8 {
-        rules[k as usize] = rule(k + 1);
+    for (k, place) in rules.iter_mut().enumerate() {
+        *place = rule(k as u8 + 1);
     }
     rules
 }
 
 fn prices() -> [u32; 32] {
     let mut prices = [0; 32];
-    for k in 0..32u8 {
-        prices[k as usize] = 200 + k as u32;
+    for (k, price) in prices.iter_mut().enumerate() {
+        *price = 200 + k as u32;
     }
     prices
 }
@@ -80,13 +65,8 @@ fn prices() -> [u32; 32] {
 // As many tickets as a table can have: 200 cents, and one more for each full 100 metres, up to 31. The
 // ferry costs one cent more, so 33 different prices can be had.
 fn tariff() -> Result<Surcharge<RuleTable>, Fail> {
-    let Ok(table) = RuleTable::open(&prices(), &rules(), [0; 4]) else {
-        return Err(Fail::new("the rule table is refused"));
-    };
-    let Ok(tariff) = Surcharge::open(table, FERRY, 1) else {
-        return Err(Fail::new("the surcharge is refused"));
-    };
-    Ok(tariff)
+    let table = RuleTable::open(&prices(), &rules(), [0; 4])?;
+    Ok(Surcharge::open(table, FERRY, 1)?)
 }
 
 // Trip 0 is the ferry and takes the longest way. Each trip after it arrives a second later, by a way
@@ -101,15 +81,14 @@ fn trip(k: u8) -> Hop {
 
 fn trips() -> [Hop; 33] {
     let mut trips = [trip(0); 33];
-    for k in 0..33u8 {
-        trips[k as usize] = trip(k);
+    for (k, place) in trips.iter_mut().enumerate() {
+        *place = trip(k as u8);
     }
     trips
 }
 
-fn ask_over(rt: &impl Abort, trips: &[Hop]) -> Result<Printed, Fail> {
-    let mut timetable = HopList::empty();
-    assert!(rt; timetable.open(trips).is_ok());
+fn ask_over(trips: &[Hop]) -> Result<Printed, Fail> {
+    let timetable = HopList::over(trips)?;
     let tariff = tariff()?;
     let board = Board {
         timetable: &timetable,
@@ -120,23 +99,25 @@ fn ask_over(rt: &impl Abort, trips: &[Hop]) -> Result<Printed, Fail> {
         stops: &[STOP, STOP],
         paths: &[],
     };
-    let mut labels = [NO_LABEL; 34];
-    let mut store = LabelStore::over(&mut labels);
-    let mut aboard = [NO_PASSENGER; 1];
+    let mut labels = [Label::at_origin(0, 0, NO_FARE); 34];
+    let mut aboard = [Passenger {
+        state: NO_FARE,
+        label: 0,
+        first: 0,
+    }; 1];
     let mut sheet = [BLANK_BYTE; SHEET_BYTES];
     let mut legs = [BLANK_LEG; MOST_LEGS];
-    let mut out = Printout {
+    let store = LabelStore::over(&mut labels);
+    let out = Printout {
         sheet: &mut sheet,
         legs: &mut legs,
     };
-    let outcome = ask(
-        &board,
-        &network,
-        &QUESTION,
-        &mut store,
-        &mut aboard,
-        &mut out,
-    );
+    let mut lent = Lent {
+        store,
+        aboard: &mut aboard,
+        out,
+    };
+    let outcome = ask(&board, &network, &QUESTION, &mut lent);
     Ok(Printed {
         outcome,
         sheet,
@@ -150,8 +131,8 @@ fn rows() -> [Row; MOST_ROWS] {
         arrival: 0,
         price: 0,
     }; MOST_ROWS];
-    for k in 0..32u8 {
-        rows[k as usize] = Row {
+    for (k, row) in rows.iter_mut().enumerate() {
+        *row = Row {
             arrival: 1000 + k as u32,
             price: 232 - k as u32,
         };
@@ -161,18 +142,16 @@ fn rows() -> [Row; MOST_ROWS] {
 
 fn rides() -> [Leg; MOST_ROWS] {
     let mut rides = [BLANK_LEG; MOST_ROWS];
-    for k in 0..32u8 {
-        rides[k as usize] = ride(k, k as usize, k as usize);
+    for (k, leg) in rides.iter_mut().enumerate() {
+        *leg = ride(k as u8, k, k);
     }
     rides
 }
 
 #[test]
 fn as_many_offers_as_a_sheet_can_hold(rt: HostRuntime) -> Result<(), Fail> {
-    let printed = ask_over(&rt, &trips()[0..32])?;
-    let Ok(answer) = printed.outcome else {
-        return Err(Fail::new("refused"));
-    };
+    let printed = ask_over(&trips()[0..32])?;
+    let answer = printed.outcome?;
     assert_eq!(rt; answer.rows, MOST_ROWS);
     assert_eq!(rt; answer.legs, MOST_ROWS);
     let mut sheet = [BLANK_BYTE; SHEET_BYTES];
@@ -183,8 +162,8 @@ fn as_many_offers_as_a_sheet_can_hold(rt: HostRuntime) -> Result<(), Fail> {
 
 #[test]
 fn one_offer_too_many(rt: HostRuntime) -> Result<(), Fail> {
-    let printed = ask_over(&rt, &trips())?;
-    assert!(rt; matches!(printed.outcome, Err(Refusal::ManyOffers(33))));
+    let printed = ask_over(&trips())?;
+    assert_eq!(rt; printed.outcome, Err(Refusal::ManyOffers(33)));
     assert!(rt; printed.shows(&[], &[]));
     Ok(())
 }

@@ -1,9 +1,6 @@
 use journeys::{Leg, LegKind};
-use planner::{Answer, Refusal};
+use planner::{Answer, MOST_LEGS, Refusal};
 use sheet::SHEET_BYTES;
-
-// 32 rows with at most 17 legs each.
-pub(crate) const MOST_LEGS: usize = 544;
 
 pub(crate) const BLANK_BYTE: u8 = 0xee;
 
@@ -33,13 +30,6 @@ pub(crate) fn walk(row: u8, path: usize) -> Leg {
     }
 }
 
-fn is_same(leg: Leg, other: Leg) -> bool {
-    leg.row == other.row
-        && leg.kind as u8 == other.kind as u8
-        && leg.first == other.first
-        && leg.last == other.last
-}
-
 // What came of a question, with what it was printed on: blank where nothing is written.
 #[derive(Drop)]
 pub(crate) struct Printed {
@@ -51,19 +41,17 @@ pub(crate) struct Printed {
 impl Printed {
     // Whether these bytes and legs stand in front, and all else is blank.
     pub(crate) fn shows(&self, sheet: &[u8], legs: &[Leg]) -> bool {
-        for place in 0..SHEET_BYTES {
-            if self.sheet[place] != sheet.get(place).copied().unwrap_or(BLANK_BYTE) {
-                return false;
-            }
-        }
-        for place in 0..MOST_LEGS {
-            if !is_same(
-                self.legs[place],
-                legs.get(place).copied().unwrap_or(BLANK_LEG),
-            ) {
-                return false;
-            }
-        }
-        true
+        self.sheet.starts_with(sheet)
+            && self
+                .sheet
+                .iter()
+                .skip(sheet.len())
+                .all(|byte| *byte == BLANK_BYTE)
+            && self.legs.starts_with(legs)
+            && self
+                .legs
+                .iter()
+                .skip(legs.len())
+                .all(|leg| *leg == BLANK_LEG)
     }
 }

@@ -11,9 +11,9 @@ fn labels_and_seats_run_out(rt: HostRuntime) -> Result<(), Fail> {
     case.aboard = 2;
     assert!(rt; case.is_answered()?);
     case.labels = 5;
-    assert!(rt; matches!(case.refusal()?, Refusal::StoreFull(5)));
+    assert_eq!(rt; case.refusal()?, Refusal::StoreFull(5));
     case.aboard = 1;
-    assert!(rt; matches!(case.refusal()?, Refusal::AboardFull(3)));
+    assert_eq!(rt; case.refusal()?, Refusal::AboardFull(3));
     Ok(())
 }
 
@@ -21,19 +21,19 @@ fn labels_and_seats_run_out(rt: HostRuntime) -> Result<(), Fail> {
 fn each_field_of_a_question(rt: HostRuntime) -> Result<(), Fail> {
     let mut case = ferry_case();
     case.question.origin = 4;
-    assert!(rt; matches!(case.refusal()?, Refusal::Question(Field::Origin)));
+    assert_eq!(rt; case.refusal()?, Refusal::Question(Field::Origin));
     case = ferry_case();
     case.question.destination = 4;
-    assert!(rt; matches!(case.refusal()?, Refusal::Question(Field::Destination)));
+    assert_eq!(rt; case.refusal()?, Refusal::Question(Field::Destination));
     case = ferry_case();
     case.question.departure = 172_800;
     assert!(rt; case.is_answered()?);
     case.question.departure = 172_801;
-    assert!(rt; matches!(case.refusal()?, Refusal::Question(Field::Departure)));
+    assert_eq!(rt; case.refusal()?, Refusal::Question(Field::Departure));
     case = ferry_case();
     for rides in [0, 9] {
         case.question.rides = rides;
-        assert!(rt; matches!(case.refusal()?, Refusal::Question(Field::Rides)));
+        assert_eq!(rt; case.refusal()?, Refusal::Question(Field::Rides));
     }
     case.question.rides = 8;
     assert!(rt; case.is_answered()?);
@@ -45,14 +45,12 @@ fn stops_outside_limits(rt: HostRuntime) -> Result<(), Fail> {
     let mut case = ferry_case();
     for stop in [Stop { zone: 64, class: 0 }, Stop { zone: 0, class: 4 }] {
         case.stops[2] = stop;
-        assert!(rt;
-            matches!(
-                case.refusal()?,
-                Refusal::Network {
-                    list: NetworkList::Stops,
-                    place: 2
-                }
-            )
+        assert_eq!(rt;
+            case.refusal()?,
+            Refusal::Network {
+                list: NetworkList::Stops,
+                place: 2
+            }
         );
     }
     case.stops[2] = Stop { zone: 63, class: 3 };
@@ -76,14 +74,12 @@ fn footpaths_outside_limits(rt: HostRuntime) -> Result<(), Fail> {
         footpath(0, 1, 3601),
     ];
     for path in outside {
-        assert!(rt;
-            matches!(
-                ferry_and(&[fine[0], path]).refusal()?,
-                Refusal::Network {
-                    list: NetworkList::Footpaths,
-                    place: 1
-                }
-            )
+        assert_eq!(rt;
+            ferry_and(&[fine[0], path]).refusal()?,
+            Refusal::Network {
+                list: NetworkList::Footpaths,
+                place: 1
+            }
         );
     }
     Ok(())
@@ -94,14 +90,12 @@ fn footpaths_outside_limits(rt: HostRuntime) -> Result<(), Fail> {
 fn a_running_hop_leads_to_a_stop(rt: HostRuntime) -> Result<(), Fail> {
     let mut case = ferry_case();
     case.hops[4].to = 4;
-    assert!(rt;
-        matches!(
-            case.refusal()?,
-            Refusal::Network {
-                list: NetworkList::Hops,
-                place: 4
-            }
-        )
+    assert_eq!(rt;
+        case.refusal()?,
+        Refusal::Network {
+            list: NetworkList::Hops,
+            place: 4
+        }
     );
     case.hops[4].runs = false;
     assert!(rt; case.is_answered()?);
@@ -126,28 +120,24 @@ fn questions_stops_and_footpaths_come_first(rt: HostRuntime) -> Result<(), Fail>
     let mut case = faulty_and(&to_itself);
     case.question.departure = 172_801;
     case.question.rides = 0;
-    assert!(rt; matches!(case.refusal()?, Refusal::Question(Field::Departure)));
+    assert_eq!(rt; case.refusal()?, Refusal::Question(Field::Departure));
     case.question.departure = 600;
-    assert!(rt; matches!(case.refusal()?, Refusal::Question(Field::Rides)));
+    assert_eq!(rt; case.refusal()?, Refusal::Question(Field::Rides));
     case.question.rides = 2;
-    assert!(rt;
-        matches!(
-            case.refusal()?,
-            Refusal::Network {
-                list: NetworkList::Stops,
-                place: 0
-            }
-        )
+    assert_eq!(rt;
+        case.refusal()?,
+        Refusal::Network {
+            list: NetworkList::Stops,
+            place: 0
+        }
     );
     case.stops[0].zone = 1;
-    assert!(rt;
-        matches!(
-            case.refusal()?,
-            Refusal::Network {
-                list: NetworkList::Footpaths,
-                place: 0
-            }
-        )
+    assert_eq!(rt;
+        case.refusal()?,
+        Refusal::Network {
+            list: NetworkList::Footpaths,
+            place: 0
+        }
     );
     Ok(())
 }
@@ -156,21 +146,19 @@ fn questions_stops_and_footpaths_come_first(rt: HostRuntime) -> Result<(), Fail>
 fn hops_outputs_and_the_store_come_next(rt: HostRuntime) -> Result<(), Fail> {
     let mut case = faulty_and(&[]);
     case.stops[0].zone = 1;
-    assert!(rt;
-        matches!(
-            case.refusal()?,
-            Refusal::Network {
-                list: NetworkList::Hops,
-                place: 0
-            }
-        )
+    assert_eq!(rt;
+        case.refusal()?,
+        Refusal::Network {
+            list: NetworkList::Hops,
+            place: 0
+        }
     );
     case.hops[0].to = 1;
-    assert!(rt; matches!(case.refusal()?, Refusal::ShortOutput(OutputList::Sheet)));
+    assert_eq!(rt; case.refusal()?, Refusal::ShortOutput(OutputList::Sheet));
     case.bytes = 225;
-    assert!(rt; matches!(case.refusal()?, Refusal::ShortOutput(OutputList::Legs)));
+    assert_eq!(rt; case.refusal()?, Refusal::ShortOutput(OutputList::Legs));
     case.legs = 544;
-    assert!(rt; matches!(case.refusal()?, Refusal::StoreFull(0)));
+    assert_eq!(rt; case.refusal()?, Refusal::StoreFull(0));
     Ok(())
 }
 
@@ -192,11 +180,9 @@ fn the_longest_timetable(rt: HostRuntime) -> Result<(), Fail> {
     let mut hops = vec![in rt.alloc(); IDLE; 65_535]?;
     assert!(rt; case.ask_over(hops.as_slice())?.outcome.is_ok());
     hops.push(IDLE)?;
-    assert!(rt;
-        matches!(
-            case.ask_over(hops.as_slice())?.outcome,
-            Err(Refusal::Question(Field::Count))
-        )
+    assert_eq!(rt;
+        case.ask_over(hops.as_slice())?.outcome,
+        Err(Refusal::Question(Field::Count))
     );
     Ok(())
 }

@@ -1,16 +1,21 @@
-use crate::printed::{BLANK_BYTE, BLANK_LEG, MOST_LEGS};
+use crate::printed::{BLANK_BYTE, BLANK_LEG};
 use fares::{FareState, Ladder};
-use journeys::{Footpath, Label, Network, Passenger, Question, Stop, Way};
+use journeys::{Label, Network, Passenger, Question, Stop};
 use measures::{Amount, Metres, ZoneSet, Zones};
-use planner::{Board, Inquiry, Printout, Refusal, Refused, compare};
+use planner::{Board, Inquiry, Lent, MOST_LEGS, Printout, Refusal, Refused, compare};
 use rule_table::RuleTable;
 use scan::LabelStore;
 use sheet::SHEET_BYTES;
-use std::process::Abort;
+use std::mem::replace;
 use std::test::*;
 use timetable::{Hop, HopList, IntervalLine};
 
-const STOP: Stop = Stop { zone: 0, class: 0 };
+const STOPS: [Stop; 2] = [Stop { zone: 0, class: 0 }; 2];
+
+const NETWORK: Network = Network {
+    stops: &STOPS,
+    paths: &[],
+};
 
 const RIDE: Hop = Hop {
     trip: 0,
@@ -45,119 +50,132 @@ const NO_ZONED: Zoned = FareState {
     weight: ZoneSet { members: 0 },
 };
 
-const METERED_LABEL: Label<Metered> = Label {
-    stop: 0,
-    time: 0,
-    rides: 0,
-    state: NO_METERED,
-    way: Way::Origin,
-};
-
-const ZONED_LABEL: Label<Zoned> = Label {
-    stop: 0,
-    time: 0,
-    rides: 0,
-    state: NO_ZONED,
-    way: Way::Origin,
-};
-
-const METERED_PASSENGER: Passenger<Metered> = Passenger {
-    state: NO_METERED,
-    label: 0,
-    first: 0,
-};
-
-const ZONED_PASSENGER: Passenger<Zoned> = Passenger {
-    state: NO_ZONED,
-    label: 0,
-    first: 0,
-};
+fn blank_passenger<S>(state: S) -> Passenger<S> {
+    Passenger {
+        state,
+        label: 0,
+        first: 0,
+    }
+}
 
 // One maker's board has a list of one hop and a table of one ticket for 200, by metres. The other's has
 // a line with three trips and a ladder that starts at this price, by zones, and so many labels.
-fn compare_makers(
-    rt: &impl Abort,
-    price: u32,
-    labels: usize,
-) -> Result<Result<bool, Refused>, Fail> {
+fn compare_makers(price: u32, labels: usize) -> Result<Result<bool, Refused>, Fail> {
     let ride = [RIDE];
-    let stops = [STOP; 2];
-    let other_stops = [STOP; 2];
-    let paths: [Footpath; 0] = [];
-    let other_paths: [Footpath; 0] = [];
-    let mut list = HopList::empty();
-    assert!(rt; list.open(&ride).is_ok());
-    let Ok(table) = RuleTable::open(&[200], &[], [0; 4]) else {
-        return Err(Fail::new("the rule table is refused"));
-    };
-    let Ok(line) = IntervalLine::open(&ride, 1200, 3) else {
-        return Err(Fail::new("the line is refused"));
-    };
-    let Ok(ladder) = Ladder::open(price, 50) else {
-        return Err(Fail::new("the ladder is refused"));
-    };
-    let board = Board {
-        timetable: &list,
-        tariff: &table,
-        measure: &Metres {},
-    };
-    let network = Network {
-        stops: &stops,
-        paths: &paths,
-    };
+    let list = HopList::over(&ride)?;
+    let table = RuleTable::open(&[200], &[], [0; 4])?;
+    let line = IntervalLine::open(&ride, 1200, 3)?;
+    let ladder = Ladder::open(price, 50)?;
     let first = Inquiry {
-        board,
-        network,
+        board: Board {
+            timetable: &list,
+            tariff: &table,
+            measure: &Metres {},
+        },
+        network: NETWORK,
         question: QUESTION,
-    };
-    let other_board = Board {
-        timetable: &line,
-        tariff: &ladder,
-        measure: &Zones {},
-    };
-    let other_network = Network {
-        stops: &other_stops,
-        paths: &other_paths,
     };
     let second = Inquiry {
-        board: other_board,
-        network: other_network,
+        board: Board {
+            timetable: &line,
+            tariff: &ladder,
+            measure: &Zones {},
+        },
+        network: NETWORK,
         question: QUESTION,
     };
-    assert!(rt; labels <= 2);
-    let mut store = [METERED_LABEL; 2];
-    let mut other_store = [ZONED_LABEL; 2];
+    let mut store = [Label::at_origin(0, 0, NO_METERED); 2];
+    let mut other_store = [Label::at_origin(0, 0, NO_ZONED); 2];
+    let other_store = other_store
+        .get_mut(..labels)
+        .ok_or_else(|| Fail::new("more places than there are"))?;
     let mut sheet = [BLANK_BYTE; SHEET_BYTES];
     let mut legs = [BLANK_LEG; MOST_LEGS];
     let mut other_sheet = [0; SHEET_BYTES];
     let mut other_legs = [BLANK_LEG; MOST_LEGS];
-    Ok(compare(
-        &first,
-        &mut LabelStore::over(&mut store),
-        &mut [METERED_PASSENGER; 1],
-        &mut Printout {
-            sheet: &mut sheet,
-            legs: &mut legs,
-        },
-        &second,
-        &mut LabelStore::over(&mut other_store[0..labels]),
-        &mut [ZONED_PASSENGER; 1],
-        &mut Printout {
-            sheet: &mut other_sheet,
-            legs: &mut other_legs,
-        },
-    ))
+    let store = LabelStore::over(&mut store);
+    let out = Printout {
+        sheet: &mut sheet,
+        legs: &mut legs,
+    };
+    let mut lent = Lent {
+        store,
+        aboard: &mut [blank_passenger(NO_METERED); 1],
+        out,
+    };
+    let other_store = LabelStore::over(other_store);
+    let other_out = Printout {
+        sheet: &mut other_sheet,
+        legs: &mut other_legs,
+    };
+    let mut other = Lent {
+        store: other_store,
+        aboard: &mut [blank_passenger(NO_ZONED); 1],
+        out: other_out,
+    };
+    Ok(compare(first, &mut lent, second, &mut other))
 }
 
 #[test]
 fn two_makers_print_one_sheet(rt: HostRuntime) -> Result<(), Fail> {
-    assert!(rt; matches!(compare_makers(&rt, 200, 2)?, Ok(true)));
-    assert!(rt; matches!(compare_makers(&rt, 201, 2)?, Ok(false)));
-    assert!(rt;
-        matches!(
-            compare_makers(&rt, 200, 1)?,
-            Err(Refused::Second(Refusal::StoreFull(1)))
-        )
+    assert_eq!(rt; compare_makers(200, 2)?, Ok(true));
+    assert_eq!(rt; compare_makers(201, 2)?, Ok(false));
+    assert_eq!(rt;
+        compare_makers(200, 1)?,
+        Err(Refused::Second(Refusal::StoreFull(1)))
     );
+    Ok(())
+}
+
+// Puts a question twice with a store that is only borrowed: it is taken out, and put back.
+fn compare_alike(store: &mut LabelStore<Zoned>) -> Result<Result<bool, Refused>, Fail> {
+    let line = IntervalLine::open(&[RIDE], 1200, 3)?;
+    let ladder = Ladder::open(200, 50)?;
+    let inquiry = Inquiry {
+        board: Board {
+            timetable: &line,
+            tariff: &ladder,
+            measure: &Zones {},
+        },
+        network: NETWORK,
+        question: QUESTION,
+    };
+    let mut sheet = [BLANK_BYTE; SHEET_BYTES];
+    let mut legs = [BLANK_LEG; MOST_LEGS];
+    let taken = replace(store, LabelStore::over(&mut []));
+    let out = Printout {
+        sheet: &mut sheet,
+        legs: &mut legs,
+    };
+    let mut lent = Lent {
+        store: taken,
+        aboard: &mut [blank_passenger(NO_ZONED); 1],
+        out,
+    };
+    let mut other_places = [Label::at_origin(0, 0, NO_ZONED); 2];
+    let mut other_sheet = [0; SHEET_BYTES];
+    let mut other_legs = [BLANK_LEG; MOST_LEGS];
+    let other_store = LabelStore::over(&mut other_places);
+    let other_out = Printout {
+        sheet: &mut other_sheet,
+        legs: &mut other_legs,
+    };
+    let mut other = Lent {
+        store: other_store,
+        aboard: &mut [blank_passenger(NO_ZONED); 1],
+        out: other_out,
+    };
+    let same = compare(inquiry, &mut lent, inquiry, &mut other);
+    *store = lent.store;
+    Ok(same)
+}
+
+#[test]
+fn a_question_is_put_twice(rt: HostRuntime) -> Result<(), Fail> {
+    let mut places = [Label::at_origin(0, 0, NO_ZONED); 2];
+    let mut store = LabelStore::over(&mut places);
+    assert_eq!(rt; compare_alike(&mut store)?, Ok(true));
+    assert_eq!(rt; store.used(), 2);
+    assert_eq!(rt; compare_alike(&mut store)?, Ok(true));
     Ok(())
 }

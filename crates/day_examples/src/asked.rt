@@ -1,7 +1,7 @@
 use day_planner::{Inquiry, ask_after};
 use fares::{FareState, LawfulMeasure, LawfulTariff, Measure, Tariff};
-use journeys::{Label, Leg, LegKind, Passenger, Way};
-use planner::{Answer, Printout};
+use journeys::{Label, Leg, LegKind, Passenger};
+use planner::{Answer, Lent, MOST_LEGS, Printout};
 use scan::LabelStore;
 use sheet::SHEET_BYTES;
 use std::process::Abort;
@@ -12,26 +12,12 @@ pub(crate) const LABELS: usize = 64;
 
 pub(crate) const SEATS: usize = 16;
 
-// 32 rows with at most 17 legs each.
-pub(crate) const MOST_LEGS: usize = 544;
-
 pub(crate) const BLANK_LEG: Leg = Leg {
     row: 0,
     kind: LegKind::Walk,
     first: 0,
     last: 0,
 };
-
-// What a store holds before a question.
-pub(crate) fn blank_label<S>(state: S) -> Label<S> {
-    Label {
-        stop: 0,
-        time: 0,
-        rides: 0,
-        state,
-        way: Way::Origin,
-    }
-}
 
 pub(crate) fn blank_passenger<S>(state: S) -> Passenger<S> {
     Passenger {
@@ -62,16 +48,15 @@ pub(crate) fn check_asked<T: Timetable + Drop, F: LawfulTariff + Drop, M: Lawful
     aboard: &mut [Passenger<FareState<F::Ticket, M::Weight>>],
     sheet: &[u8],
 ) -> Result<Answer, Fail> {
-    let mut store = LabelStore::over(labels);
     let mut written = [0; SHEET_BYTES];
     let mut legs = [BLANK_LEG; MOST_LEGS];
-    let mut out = Printout {
+    let store = LabelStore::over(labels);
+    let out = Printout {
         sheet: &mut written,
         legs: &mut legs,
     };
-    let Ok(answer) = ask_after(inquiry, &mut store, aboard, &mut out) else {
-        return Err(Fail::new("refused"));
-    };
+    let mut lent = Lent { store, aboard, out };
+    let answer = ask_after(inquiry, &mut lent)?;
     check_sheet(rt, answer, &written, sheet);
     Ok(answer)
 }

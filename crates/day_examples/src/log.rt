@@ -1,12 +1,11 @@
-use crate::asked::{
-    BLANK_LEG, LABELS, MOST_LEGS, SEATS, blank_label, blank_passenger, check_sheet,
-};
-use crate::ferry::{NETWORK, NO_FARE, ONE_FERRY, QUESTION, hops, tariff};
+use crate::asked::{BLANK_LEG, LABELS, SEATS, blank_passenger, check_sheet};
+use crate::ferry::ONE_FERRY;
 use day_planner::{Entry, Planner, Refusal, Reply};
-use fares::{FareState, Marked, Surcharge};
-use journeys::{Passenger, Question};
-use measures::{ZoneSet, Zones};
-use planner::{Answer, Printout};
+use fares::Surcharge;
+use ferry_cases::{FerryState, NETWORK, NO_FARE, QUESTION, hops, tariff};
+use journeys::{Label, Question};
+use measures::Zones;
+use planner::{Answer, Lent, MOST_LEGS, Printout};
 use rule_table::RuleTable;
 use scan::LabelStore;
 use sheet::SHEET_BYTES;
@@ -15,8 +14,6 @@ use std::test::Fail;
 use timetable::HopList;
 
 type FerryPlanner<'a> = Planner<HopList<'a>, Surcharge<RuleTable>, Zones>;
-
-type FerryState = FareState<Marked<u8>, ZoneSet>;
 
 const NO_RIDES: Question = Question {
     rides: 0,
@@ -39,119 +36,99 @@ const BY_FERRY: Answer = Answer {
     legs: 2,
 };
 
-// What an entry has to be replied; a refusal is told by its number.
-#[derive(Clone, Copy)]
-enum Told {
-    Done,
-    Answered(Answer),
+// A refusal's number, as one for a trip or as a question.
+#[derive(Clone, Copy, Debug, PartialEq, Eq)]
+enum Number {
     Trip(u8),
     Question(u8),
 }
 
+// What an entry has to be replied; a refusal is told by its number.
+type Told = Result<Reply, Number>;
+
 const ENTRIES: usize = 12;
 
 const LOG: [(Entry, Told); ENTRIES] = [
-    (Entry::Ask(QUESTION), Told::Answered(BOTH_WAYS)),
-    (Entry::Cancel(4), Told::Trip(5)),
-    (Entry::Reinstate(1), Told::Trip(7)),
-    (Entry::Cancel(1), Told::Done),
-    (Entry::Ask(QUESTION), Told::Answered(BY_FERRY)),
-    (Entry::Ask(NO_RIDES), Told::Question(9)),
+    (Entry::Ask(QUESTION), Ok(Reply::Answered(BOTH_WAYS))),
+    (Entry::Cancel(4), Err(Number::Trip(5))),
+    (Entry::Reinstate(1), Err(Number::Trip(7))),
+    (Entry::Cancel(1), Ok(Reply::Done)),
+    (Entry::Ask(QUESTION), Ok(Reply::Answered(BY_FERRY))),
+    (Entry::Ask(NO_RIDES), Err(Number::Question(9))),
     (
         Entry::Delay {
             trip: 0,
             seconds: 7_201,
         },
-        Told::Trip(8),
+        Err(Number::Trip(8)),
     ),
-    (Entry::Ask(QUESTION), Told::Answered(BY_FERRY)),
+    (Entry::Ask(QUESTION), Ok(Reply::Answered(BY_FERRY))),
     (
         Entry::Delay {
             trip: 0,
             seconds: 301,
         },
-        Told::Done,
+        Ok(Reply::Done),
     ),
-    (Entry::Reinstate(1), Told::Done),
-    (Entry::Ask(QUESTION), Told::Answered(BOTH_WAYS)),
+    (Entry::Reinstate(1), Ok(Reply::Done)),
+    (Entry::Ask(QUESTION), Ok(Reply::Answered(BOTH_WAYS))),
     (
         Entry::Delay {
             trip: 4,
             seconds: 0,
         },
-        Told::Trip(5),
+        Err(Number::Trip(5)),
     ),
 ];
 
-fn check_answer(rt: &impl Abort, answer: Answer, told: Answer) -> Result<(), Fail> {
-    assert_eq!(rt; answer.rows, told.rows);
-    assert_eq!(rt; answer.labels, told.labels);
-    assert_eq!(rt; answer.bytes, told.bytes);
-    assert_eq!(rt; answer.legs, told.legs);
-    Ok(())
-}
-
-fn check_reply(rt: &impl Abort, reply: Result<Reply, Refusal>, told: Told) -> Result<(), Fail> {
-    match (reply, told) {
-        (Ok(Reply::Done), Told::Done) => Ok(()),
-        (Ok(Reply::Answered(answer)), Told::Answered(told)) => check_answer(rt, answer, told),
-        (Err(Refusal::Trip(refusal)), Told::Trip(number)) => {
-            assert_eq!(rt; refusal.number(), number);
-            assert_eq!(rt; Refusal::Trip(refusal).number(), number);
-            Ok(())
-        }
-        (Err(Refusal::Question(refusal)), Told::Question(number)) => {
-            assert_eq!(rt; refusal.number(), number);
-            assert_eq!(rt; Refusal::Question(refusal).number(), number);
-            Ok(())
-        }
-        _ => Err(Fail::new("another reply")),
+fn number_within(refusal: Refusal) -> Number {
+    match refusal {
+        Refusal::Trip(refusal) => Number::Trip(refusal.number()),
+        Refusal::Question(refusal) => Number::Question(refusal.number()),
     }
 }
 
-// Enters the log, and checks each reply.
-fn enter_log(
-    rt: &impl Abort,
-    planner: &mut FerryPlanner,
-    store: &mut LabelStore<FerryState>,
-    aboard: &mut [Passenger<FerryState>],
-    out: &mut Printout,
-) -> Result<(), Fail> {
-    for (entry, told) in &LOG {
-        let reply = planner.enter(*entry, &NETWORK, store, aboard, out);
-        check_reply(rt, reply, *told)?;
+// Both numbers are as told: that of the inner refusal, and that of the whole.
+fn check_reply(rt: &impl Abort, reply: Result<Reply, Refusal>, told: Told) {
+    assert_eq!(rt; reply.map_err(number_within), told);
+    if let (Err(refusal), Err(Number::Trip(number) | Number::Question(number))) = (reply, told) {
+        assert_eq!(rt; refusal.number(), number);
     }
-    Ok(())
 }
 
 // The log without replies.
 fn entries() -> [Entry; ENTRIES] {
     let mut entries = [Entry::Cancel(0); ENTRIES];
-    for place in 0..ENTRIES {
-        entries[place] = LOG[place].0;
+    for (place, (entry, _)) in entries.iter_mut().zip(&LOG) {
+        *place = *entry;
     }
     entries
 }
 
-// Runs the log or enters it, and asks the ferry's question then.
+// Runs the log or enters it, and asks the ferry's question then. (A closure for each of the two is no plainer.)
 fn answer_after(rt: &impl Abort, planner: &mut FerryPlanner, is_run: bool) -> Result<Answer, Fail> {
-    let mut labels = [blank_label(NO_FARE); LABELS];
+    let mut labels = [Label::at_origin(0, 0, NO_FARE); LABELS];
     let mut aboard = [blank_passenger(NO_FARE); SEATS];
-    let mut store = LabelStore::over(&mut labels);
     let mut sheet = [0; SHEET_BYTES];
     let mut legs = [BLANK_LEG; MOST_LEGS];
-    let mut out = Printout {
+    let store = LabelStore::over(&mut labels);
+    let out = Printout {
         sheet: &mut sheet,
         legs: &mut legs,
     };
-    if is_run {
-        planner.run(&entries(), &NETWORK, &mut store, &mut aboard, &mut out);
-    } else {
-        enter_log(rt, planner, &mut store, &mut aboard, &mut out)?;
-    }
-    let Ok(answer) = planner.ask(&NETWORK, &QUESTION, &mut store, &mut aboard, &mut out) else {
-        return Err(Fail::new("refused"));
+    let mut lent = Lent {
+        store,
+        aboard: &mut aboard,
+        out,
     };
+    if is_run {
+        planner.run(&entries(), &NETWORK, &mut lent);
+    } else {
+        for (entry, told) in &LOG {
+            check_reply(rt, planner.enter(*entry, &NETWORK, &mut lent), *told);
+        }
+    }
+    let answer = planner.ask(&NETWORK, &QUESTION, &mut lent)?;
     check_sheet(rt, answer, &sheet, &ONE_FERRY);
     Ok(answer)
 }
@@ -161,10 +138,8 @@ fn answer_after(rt: &impl Abort, planner: &mut FerryPlanner, is_run: bool) -> Re
 fn a_log_of_every_kind_of_entry(rt: HostRuntime) -> Result<(), Fail> {
     let hops = hops();
     for is_run in [false, true] {
-        let mut timetable = HopList::empty();
-        assert!(rt; timetable.open(&hops).is_ok());
-        let mut planner = Planner::new(timetable, tariff()?, Zones {});
-        check_answer(&rt, answer_after(&rt, &mut planner, is_run)?, BOTH_WAYS)?;
+        let mut planner = Planner::new(HopList::over(&hops)?, tariff()?, Zones {});
+        assert_eq!(rt; answer_after(&rt, &mut planner, is_run)?, BOTH_WAYS);
     }
     Ok(())
 }

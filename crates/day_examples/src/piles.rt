@@ -1,8 +1,9 @@
-use crate::asked::{LABELS, SEATS, blank_label, blank_passenger, check_asked};
-use crate::ferry;
+use crate::asked::{LABELS, SEATS, blank_passenger, check_asked};
+use crate::ferry::ONE_FERRY;
 use day_planner::{Entry, Inquiry};
 use fares::{FareState, Ladder, Marked};
-use journeys::{Network, Question, Stop};
+use ferry_cases::{NETWORK, QUESTION, hops, tariff};
+use journeys::{Label, Network, Question, Stop};
 use measures::{Amount, Both, Height, Level, Metres, Pair, Stops, ZoneSet, Zones};
 use std::test::Fail;
 use timetable::{Hop, HopList, IntervalLine};
@@ -63,12 +64,8 @@ const ON: Hop = Hop {
 // 100 and 50 for each zone after the first.
 #[test]
 fn a_line_with_a_ladder_after_a_log(rt: HostRuntime) -> Result<(), Fail> {
-    let Ok(timetable) = IntervalLine::open(&[OUT, ON], 600, 3) else {
-        return Err(Fail::new("the line is refused"));
-    };
-    let Ok(tariff) = Ladder::open(100, 50) else {
-        return Err(Fail::new("the ladder is refused"));
-    };
+    let timetable = IntervalLine::open(&[OUT, ON], 600, 3)?;
+    let tariff = Ladder::open(100, 50)?;
     let log = [
         Entry::Cancel(0),
         Entry::Delay {
@@ -96,7 +93,7 @@ fn a_line_with_a_ladder_after_a_log(rt: HostRuntime) -> Result<(), Fail> {
         ticket: 0,
         weight: NO_WEIGHT,
     };
-    let mut labels = [blank_label(fare); LABELS];
+    let mut labels = [Label::at_origin(0, 0, fare); LABELS];
     let mut aboard = [blank_passenger(fare); SEATS];
     let sheet = [0x01, 0x0b, 0x44, 0x07, 0xc8];
     let answer = check_asked(&rt, inquiry, &mut labels, &mut aboard, &sheet)?;
@@ -107,20 +104,18 @@ fn a_line_with_a_ladder_after_a_log(rt: HostRuntime) -> Result<(), Fail> {
 // The ferry's fares look at zones alone, so its offers are those of a board that measures nothing else.
 #[test]
 fn the_ferry_measured_in_every_way_after_a_log(rt: HostRuntime) -> Result<(), Fail> {
-    let hops = ferry::hops();
-    let mut timetable = HopList::empty();
-    assert!(rt; timetable.open(&hops).is_ok());
+    let hops = hops();
     let log = [Entry::Delay {
         trip: 0,
         seconds: 301,
     }];
     let inquiry = Inquiry {
-        timetable,
-        tariff: ferry::tariff()?,
+        timetable: HopList::over(&hops)?,
+        tariff: tariff()?,
         measure: EVERY_MEASURE,
-        network: ferry::NETWORK,
+        network: NETWORK,
         log: &log,
-        question: ferry::QUESTION,
+        question: QUESTION,
     };
     let fare = FareState {
         ticket: Marked {
@@ -129,9 +124,9 @@ fn the_ferry_measured_in_every_way_after_a_log(rt: HostRuntime) -> Result<(), Fa
         },
         weight: NO_WEIGHT,
     };
-    let mut labels = [blank_label(fare); LABELS];
+    let mut labels = [Label::at_origin(0, 0, fare); LABELS];
     let mut aboard = [blank_passenger(fare); SEATS];
-    let answer = check_asked(&rt, inquiry, &mut labels, &mut aboard, &ferry::ONE_FERRY)?;
+    let answer = check_asked(&rt, inquiry, &mut labels, &mut aboard, &ONE_FERRY)?;
     assert_eq!(rt; answer.legs, 4);
     Ok(())
 }

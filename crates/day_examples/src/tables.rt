@@ -71,37 +71,26 @@ const DELAYED: [(u32, u32, Option<u8>); 19] = [
 ];
 
 fn line() -> Result<IntervalLine, Fail> {
-    let Ok(line) = IntervalLine::open(&[RIDE], INTERVAL, TRIPS as u32) else {
-        return Err(Fail::new("the line is refused"));
-    };
-    Ok(line)
+    Ok(IntervalLine::open(&[RIDE], INTERVAL, TRIPS as u32)?)
 }
 
 // Whether a call is taken; it has to be refused with the trip, and with the number if there is one.
-fn is_taken(
-    rt: &impl Abort,
-    outcome: Result<(), Refusal>,
-    trip: u32,
-    number: Option<u8>,
-) -> Result<bool, Fail> {
-    let Err(refusal) = outcome else {
-        assert_eq!(rt; number, None);
-        return Ok(true);
-    };
-    assert_eq!(rt; number, Some(refusal.number()));
-    assert_eq!(rt; refusal.trip(), trip);
-    Ok(false)
+fn is_taken(rt: &impl Abort, outcome: Result<(), Refusal>, trip: u32, number: Option<u8>) -> bool {
+    let told = outcome.map_err(|refusal| (refusal.number(), refusal.trip()));
+    assert_eq!(rt; told.err(), number.map(|number| (number, trip)));
+    told.is_ok()
 }
 
-// Checks the one hop of a trip.
-fn check_hop(rt: &impl Abort, hop: Option<Hop>, departure: u32, runs: bool) -> Result<(), Fail> {
-    let Some(hop) = hop else {
-        return Err(Fail::new("no hop"));
-    };
-    assert_eq!(rt; hop.departure, departure);
-    assert_eq!(rt; hop.arrival, departure.saturating_add(300));
-    assert_eq!(rt; hop.runs, runs);
-    Ok(())
+// The one hop of a trip, so late.
+fn hop_of(trip: u32, late: u32, runs: bool) -> Hop {
+    let departure = (600 + trip.min(TRIPS as u32) * INTERVAL).saturating_add(late);
+    Hop {
+        trip,
+        departure,
+        arrival: departure.saturating_add(300),
+        runs,
+        ..RIDE
+    }
 }
 
 // Checks of each trip whether it is cancelled.
@@ -109,34 +98,21 @@ fn check_cancelled(
     rt: &impl Abort,
     table: &Cancellations<IntervalLine>,
     cancelled: &[bool; TRIPS],
-) -> Result<(), Fail> {
-    for place in 0..TRIPS {
+) {
+    for (place, off) in cancelled.iter().enumerate() {
         let trip = place as u32;
-        assert_eq!(rt; table.is_cancelled(trip), cancelled[place]);
-        check_hop(
-            rt,
-            table.hop(trip),
-            600 + trip * INTERVAL,
-            !cancelled[place],
-        )?;
+        assert_eq!(rt; table.is_cancelled(trip), *off);
+        assert_eq!(rt; table.hop(trip), Some(hop_of(trip, 0, !*off)));
     }
-    Ok(())
 }
 
 // Checks of each trip how late it is.
-fn check_delayed(
-    rt: &impl Abort,
-    table: &Delays<IntervalLine>,
-    seconds: &[u32; TRIPS],
-) -> Result<(), Fail> {
-    for place in 0..TRIPS {
+fn check_delayed(rt: &impl Abort, table: &Delays<IntervalLine>, seconds: &[u32; TRIPS]) {
+    for (place, late) in seconds.iter().enumerate() {
         let trip = place as u32;
-        let late = seconds[place];
-        assert_eq!(rt; table.seconds(trip), late);
-        let departure = (600 + trip * INTERVAL).saturating_add(late);
-        check_hop(rt, table.hop(trip), departure, true)?;
+        assert_eq!(rt; table.seconds(trip), *late);
+        assert_eq!(rt; table.hop(trip), Some(hop_of(trip, *late, true)));
     }
-    Ok(())
 }
 
 // Each call alters its own trip alone, and a refused one none.
@@ -144,22 +120,22 @@ fn check_delayed(
 fn thirty_two_trips_are_cancelled(rt: HostRuntime) -> Result<(), Fail> {
     let mut table = Cancellations::new(line()?);
     let mut cancelled = [false; TRIPS];
-    check_cancelled(&rt, &table, &cancelled)?;
+    check_cancelled(&rt, &table, &cancelled);
     for trip in 0..LISTED {
         assert!(rt; table.cancel(trip).is_ok());
         cancelled[trip as usize] = true;
     }
-    check_cancelled(&rt, &table, &cancelled)?;
+    check_cancelled(&rt, &table, &cancelled);
     for (call, number) in &CANCELLED {
         let (trip, off, outcome) = match call {
             Call::Cancel(trip) => (*trip, true, table.cancel(*trip)),
             Call::Reinstate(trip) => (*trip, false, table.reinstate(*trip)),
         };
-        if is_taken(&rt, outcome, trip, *number)? {
+        if is_taken(&rt, outcome, trip, *number) {
             assert!(rt; trip < TRIPS as u32);
             cancelled[trip as usize] = off;
         }
-        check_cancelled(&rt, &table, &cancelled)?;
+        check_cancelled(&rt, &table, &cancelled);
     }
     Ok(())
 }
@@ -169,19 +145,19 @@ fn thirty_two_trips_are_cancelled(rt: HostRuntime) -> Result<(), Fail> {
 fn thirty_two_trips_are_delayed(rt: HostRuntime) -> Result<(), Fail> {
     let mut table = Delays::new(line()?);
     let mut seconds = [0; TRIPS];
-    check_delayed(&rt, &table, &seconds)?;
+    check_delayed(&rt, &table, &seconds);
     for trip in 0..LISTED {
         assert!(rt; table.delay(trip, trip + 1).is_ok());
         seconds[trip as usize] = trip + 1;
     }
-    check_delayed(&rt, &table, &seconds)?;
+    check_delayed(&rt, &table, &seconds);
     for (trip, late, number) in &DELAYED {
         let outcome = table.delay(*trip, *late);
-        if is_taken(&rt, outcome, *trip, *number)? {
+        if is_taken(&rt, outcome, *trip, *number) {
             assert!(rt; *trip < TRIPS as u32);
             seconds[*trip as usize] = *late;
         }
-        check_delayed(&rt, &table, &seconds)?;
+        check_delayed(&rt, &table, &seconds);
     }
     Ok(())
 }

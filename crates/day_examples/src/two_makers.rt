@@ -1,9 +1,9 @@
-use crate::asked::{BLANK_LEG, MOST_LEGS, blank_label, blank_passenger};
+use crate::asked::{BLANK_LEG, blank_passenger};
 use day_planner::{Entry, Inquiry, Refused, compare};
 use fares::{FareState, Ladder};
-use journeys::{Network, Question, Stop};
+use journeys::{Label, Network, Question, Stop};
 use measures::{Amount, Metres, ZoneSet, Zones};
-use planner::{Printout, Refusal};
+use planner::{Lent, MOST_LEGS, Printout, Refusal};
 use rule_table::RuleTable;
 use scan::LabelStore;
 use sheet::SHEET_BYTES;
@@ -116,30 +116,6 @@ fn maker_of<'a>(kind: Kind) -> Maker<'a> {
     }
 }
 
-// One maker's tariff is a table of one ticket.
-fn table(price: u32) -> Result<RuleTable, Fail> {
-    let Ok(table) = RuleTable::open(&[price], &[], [0; 4]) else {
-        return Err(Fail::new("the rule table is refused"));
-    };
-    Ok(table)
-}
-
-// The other's is a ladder that starts at its price.
-fn ladder(price: u32) -> Result<Ladder, Fail> {
-    let Ok(ladder) = Ladder::open(price, 50) else {
-        return Err(Fail::new("the ladder is refused"));
-    };
-    Ok(ladder)
-}
-
-// Three trips, 1200 seconds apart.
-fn line(ride: &[Hop]) -> Result<IntervalLine, Fail> {
-    let Ok(line) = IntervalLine::open(ride, 1200, 3) else {
-        return Err(Fail::new("the line is refused"));
-    };
-    Ok(line)
-}
-
 fn inquiry<'a, T, F, M>(
     timetable: T,
     tariff: F,
@@ -166,32 +142,43 @@ fn compare_makers(
     let first = maker_of(first);
     let second = maker_of(second);
     assert!(rt; first.labels <= MOST_LABELS && second.labels <= MOST_LABELS);
-    let mut list = HopList::empty();
-    assert!(rt; list.open(first.ride).is_ok());
-    let tariff = table(first.price)?;
-    let line = line(second.ride)?;
-    let ladder = ladder(second.price)?;
-    let mut labels = [blank_label(NO_METERED); MOST_LABELS];
-    let mut other_labels = [blank_label(NO_ZONED); MOST_LABELS];
+    let list = HopList::over(first.ride)?;
+    // One maker's tariff is a table of one ticket, the other's a ladder that starts at its price.
+    let table = RuleTable::open(&[first.price], &[], [0; 4])?;
+    let ladder = Ladder::open(second.price, 50)?;
+    // Three trips, 1200 seconds apart.
+    let line = IntervalLine::open(second.ride, 1200, 3)?;
+    let mut labels = [Label::at_origin(0, 0, NO_METERED); MOST_LABELS];
+    let mut other_labels = [Label::at_origin(0, 0, NO_ZONED); MOST_LABELS];
     let mut sheet = [0; SHEET_BYTES];
     let mut legs = [BLANK_LEG; MOST_LEGS];
     let mut other_sheet = [0; SHEET_BYTES];
     let mut other_legs = [BLANK_LEG; MOST_LEGS];
+    let store = LabelStore::over(&mut labels[0..first.labels]);
+    let out = Printout {
+        sheet: &mut sheet,
+        legs: &mut legs,
+    };
+    let mut lent = Lent {
+        store,
+        aboard: &mut [blank_passenger(NO_METERED); 1],
+        out,
+    };
+    let other_store = LabelStore::over(&mut other_labels[0..second.labels]);
+    let other_out = Printout {
+        sheet: &mut other_sheet,
+        legs: &mut other_legs,
+    };
+    let mut other = Lent {
+        store: other_store,
+        aboard: &mut [blank_passenger(NO_ZONED); 1],
+        out: other_out,
+    };
     Ok(compare(
-        inquiry(list, tariff, Metres {}, first.log),
-        &mut LabelStore::over(&mut labels[0..first.labels]),
-        &mut [blank_passenger(NO_METERED); 1],
-        &mut Printout {
-            sheet: &mut sheet,
-            legs: &mut legs,
-        },
+        inquiry(list, table, Metres {}, first.log),
+        &mut lent,
         inquiry(line, ladder, Zones {}, second.log),
-        &mut LabelStore::over(&mut other_labels[0..second.labels]),
-        &mut [blank_passenger(NO_ZONED); 1],
-        &mut Printout {
-            sheet: &mut other_sheet,
-            legs: &mut other_legs,
-        },
+        &mut other,
     ))
 }
 
@@ -216,33 +203,24 @@ const COMPARED: [(Kind, Kind, bool); 12] = [
 #[test]
 fn two_makers_print_one_sheet(rt: HostRuntime) -> Result<(), Fail> {
     for (list, line, is_same) in &COMPARED {
-        let Ok(same) = compare_makers(&rt, *list, *line)? else {
-            return Err(Fail::new("refused"));
-        };
-        assert_eq!(rt; same, *is_same);
+        assert_eq!(rt; compare_makers(&rt, *list, *line)?, Ok(*is_same));
     }
     Ok(())
 }
 
 #[test]
 fn the_board_that_refuses_is_told(rt: HostRuntime) -> Result<(), Fail> {
-    assert!(rt;
-        matches!(
-            compare_makers(&rt, Kind::Plain, Kind::Short)?,
-            Err(Refused::Second(Refusal::StoreFull(1)))
-        )
+    assert_eq!(rt;
+        compare_makers(&rt, Kind::Plain, Kind::Short)?,
+        Err(Refused::Second(Refusal::StoreFull(1)))
     );
-    assert!(rt;
-        matches!(
-            compare_makers(&rt, Kind::Short, Kind::Plain)?,
-            Err(Refused::First(Refusal::StoreFull(1)))
-        )
+    assert_eq!(rt;
+        compare_makers(&rt, Kind::Short, Kind::Plain)?,
+        Err(Refused::First(Refusal::StoreFull(1)))
     );
-    assert!(rt;
-        matches!(
-            compare_makers(&rt, Kind::Short, Kind::Shorter)?,
-            Err(Refused::First(Refusal::StoreFull(1)))
-        )
+    assert_eq!(rt;
+        compare_makers(&rt, Kind::Short, Kind::Shorter)?,
+        Err(Refused::First(Refusal::StoreFull(1)))
     );
     Ok(())
 }

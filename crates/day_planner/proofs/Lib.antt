@@ -1,5 +1,4 @@
 pub mod Entries
 pub mod Sizes
 pub mod AfterLog
-pub mod SameSheets
 pub mod Promised

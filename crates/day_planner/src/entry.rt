@@ -1,7 +1,7 @@
 use journeys::Question;
 
 // An entry of a board's log.
-#[derive(Clone, Copy)]
+#[derive(Clone, Copy, Debug, PartialEq, Eq)]
 pub enum Entry {
     Cancel(u32),
     Reinstate(u32),

@@ -14,14 +14,13 @@ mod inquiry;
 mod planning;
 mod refusal;
 mod refusal_numbers;
-mod refused;
 mod reply;
 mod two_boards;
 
 pub use board_planner::Planner;
 pub use entry::Entry;
 pub use inquiry::Inquiry;
+pub use planner::Refused;
 pub use refusal::Refusal;
-pub use refused::Refused;
 pub use reply::Reply;
 pub use two_boards::{ask_after, compare};

@@ -3,7 +3,7 @@ ghost use Rattle.timetable.specs.Table.{trips_of};
 ghost use Rattle.service_day.specs.Days.{cancelling, reinstating, delaying};
 ghost use Rattle.service_day.specs.DayStates.{first_day, after_cancel, after_reinstate, after_delay, meant_on};
 ghost use Rattle.service_day.specs.Refusals.{told};
-ghost use Rattle.planner.specs.Lent.{lent, Ends};
+ghost use Rattle.planner.specs.Lent.{memory_of, Ends, SameLists};
 ghost use Rattle.planner.specs.Refusals.{numbered};
 ghost use Rattle.day_planner.specs.Log.{asked_on};
 ghost use Rattle.day_planner.specs.Planners.{day_in, parts_of, basis};
@@ -11,9 +11,8 @@ ghost use Rattle.day_planner.specs.Promise.{Promise};
 
 use crate::board_planner::Planner;
 use fares::{FareState, LawfulMeasure, LawfulTariff, Measure, Tariff};
-use journeys::{Network, Passenger, Question};
-use planner::{Answer, Board, Printout, ask};
-use scan::LabelStore;
+use journeys::{Network, Question};
+use planner::{Answer, Board, Lent, ask};
 use service_day::{Day, Refusal};
 use timetable::Timetable;
 
@@ -63,19 +62,18 @@ impl<T: Timetable, F: LawfulTariff, M: LawfulMeasure> Planner<T, F, M> {
         &self,
         network: &Network,
         question: &Question,
-        store: &mut LabelStore<FareState<F::Ticket, M::Weight>>,
-        aboard: &mut [Passenger<FareState<F::Ticket, M::Weight>>],
-        out: &mut Printout,
+        lent: &mut Lent<FareState<F::Ticket, M::Weight>>,
     ) -> Result<Answer, planner::Refusal>
-        ensures outcome { Ends (asked_on (basis T.Timetable.hops F.Tariff.model M.Measure.model (parts_of self.now) network.now) (day_in self.now) question.now (lent store.old aboard.old out.old)) result (lent store.new aboard.new out.new) }
-        ensures numbers { numbered result ≡ numbered (asked_on (basis T.Timetable.hops F.Tariff.model M.Measure.model (parts_of self.now) network.now) (day_in self.now) question.now (lent store.old aboard.old out.old)).answer }
-        ensures promise { Promise (basis T.Timetable.hops F.Tariff.model M.Measure.model (parts_of self.now) network.now) (meant_on (day_in self.now) (T.Timetable.hops (parts_of self.now).timetable)) question.now (lent store.old aboard.old out.old) result (lent store.new aboard.new out.new) }
+        ensures outcome { Ends (asked_on (basis T.Timetable.hops F.Tariff.model M.Measure.model (parts_of self.now) network.now) (day_in self.now) question.now (memory_of lent.old)) result (memory_of lent.new) }
+        ensures numbers { numbered result ≡ numbered (asked_on (basis T.Timetable.hops F.Tariff.model M.Measure.model (parts_of self.now) network.now) (day_in self.now) question.now (memory_of lent.old)).answer }
+        ensures promise { Promise (basis T.Timetable.hops F.Tariff.model M.Measure.model (parts_of self.now) network.now) (meant_on (day_in self.now) (T.Timetable.hops (parts_of self.now).timetable)) question.now (memory_of lent.old) result (memory_of lent.new) }
+        ensures same_lists { SameLists lent.old lent.new }
     {
         let board = Board {
             timetable: &self.day,
             tariff: &self.tariff,
             measure: &self.measure,
         };
-        ask(&board, network, question, store, aboard, out)
+        ask(&board, network, question, lent)
     }
 }

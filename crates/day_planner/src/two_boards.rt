@@ -1,30 +1,29 @@
-ghost use Rattle.std.specs.Prelude.{◌≡◌, ◌≤◌, length, take, Decides};
-ghost use Rattle.planner.specs.Lent.{lent, Ends};
+ghost use Rattle.std.specs.Prelude.{◌≡◌};
+ghost use Rattle.journeys.specs.Offers.{Best};
+ghost use Rattle.planner.specs.Comparing.{left_of_second, Tells};
+ghost use Rattle.planner.specs.Lent.{memory_of, Ends, SameLists};
 ghost use Rattle.planner.specs.Refusals.{numbered};
-ghost use Rattle.day_planner.specs.Comparing.{compared, left_of_second, SameBestAfter, Tells};
+ghost use Rattle.planner.specs.ShownOffers.{promised_shows};
+ghost use Rattle.day_planner.specs.Comparing.{compared, SameBestAfter};
 ghost use Rattle.day_planner.specs.Inquiries.{basis_of, log_of};
 ghost use Rattle.day_planner.specs.Log.{asked_after, hops_after};
-ghost use Rattle.day_planner.specs.Promise.{Promise};
+ghost use Rattle.day_planner.specs.Promise.{Promise, journeys_over};
 
 use crate::board_planner::Planner;
 use crate::inquiry::Inquiry;
-use crate::refused::Refused;
 use fares::{FareState, LawfulMeasure, LawfulTariff, Measure, Tariff};
-use journeys::Passenger;
-use planner::{Answer, Printout, Refusal};
-use scan::LabelStore;
+use planner::{Answer, Inquire, Lent, Refusal, Refused};
 use timetable::Timetable;
 
 // Answers a question after a log, on a new planner. The questions of the log use the same memory.
 pub fn ask_after<T: Timetable + Drop, F: LawfulTariff + Drop, M: LawfulMeasure + Drop>(
     inquiry: Inquiry<T, F, M>,
-    store: &mut LabelStore<FareState<F::Ticket, M::Weight>>,
-    aboard: &mut [Passenger<FareState<F::Ticket, M::Weight>>],
-    out: &mut Printout,
+    lent: &mut Lent<FareState<F::Ticket, M::Weight>>,
 ) -> Result<Answer, Refusal>
-    ensures outcome { Ends (asked_after (basis_of T.Timetable.hops F.Tariff.model M.Measure.model inquiry.entry) (log_of inquiry.entry) inquiry.entry.question (lent store.old aboard.old out.old)) result (lent store.new aboard.new out.new) }
-    ensures numbers { numbered result ≡ numbered (asked_after (basis_of T.Timetable.hops F.Tariff.model M.Measure.model inquiry.entry) (log_of inquiry.entry) inquiry.entry.question (lent store.old aboard.old out.old)).answer }
-    ensures promise { Promise (basis_of T.Timetable.hops F.Tariff.model M.Measure.model inquiry.entry) (hops_after (T.Timetable.hops inquiry.entry.timetable) (log_of inquiry.entry)) inquiry.entry.question (lent store.old aboard.old out.old) result (lent store.new aboard.new out.new) }
+    ensures outcome { Ends (asked_after (basis_of T.Timetable.hops F.Tariff.model M.Measure.model inquiry.entry) (log_of inquiry.entry) inquiry.entry.question (memory_of lent.old)) result (memory_of lent.new) }
+    ensures numbers { numbered result ≡ numbered (asked_after (basis_of T.Timetable.hops F.Tariff.model M.Measure.model inquiry.entry) (log_of inquiry.entry) inquiry.entry.question (memory_of lent.old)).answer }
+    ensures promise { Promise (basis_of T.Timetable.hops F.Tariff.model M.Measure.model inquiry.entry) (hops_after (T.Timetable.hops inquiry.entry.timetable) (log_of inquiry.entry)) inquiry.entry.question (memory_of lent.old) result (memory_of lent.new) }
+    ensures same_lists { SameLists lent.old lent.new }
 {
     let Inquiry {
         timetable,
@@ -35,23 +34,25 @@ pub fn ask_after<T: Timetable + Drop, F: LawfulTariff + Drop, M: LawfulMeasure +
         question,
     } = inquiry;
     let mut planner = Planner::new(timetable, tariff, measure);
-    planner.run(log, &network, store, aboard, out);
-    planner.ask(&network, &question, store, aboard, out)
+    planner.run(log, &network, lent);
+    planner.ask(&network, &question, lent)
 }
 
-fn is_same(bytes: &[u8], others: &[u8]) -> bool
-    ensures { Decides result (bytes.now ≡ others.now) }
-{
-    bytes == others
-}
+impl<'a, 'b, T: Timetable + Drop, F: LawfulTariff + Drop, M: LawfulMeasure + Drop> Inquire
+    for Inquiry<'a, 'b, T, F, M> {
+    type State = FareState<F::Ticket, M::Weight>;
 
-// Whether two printouts show the same sheet, in their first bytes.
-fn is_same_sheet(out: &Printout, bytes: usize, other: &Printout, other_bytes: usize) -> bool
-    requires bytes_in_bounds { bytes ≤ length out.now.sheet.now }
-    requires other_bytes_in_bounds { other_bytes ≤ length other.now.sheet.now }
-    ensures { Decides result (take bytes out.now.sheet.now ≡ take other_bytes other.now.sheet.now) }
-{
-    is_same(&out.sheet[0..bytes], &other.sheet[0..other_bytes])
+    ghost outcome = { λ i m. asked_after (basis_of T.Timetable.hops F.Tariff.model M.Measure.model i) (log_of i) i.question m };
+
+    ghost promised = { λ i m r n. Promise (basis_of T.Timetable.hops F.Tariff.model M.Measure.model i) (hops_after (T.Timetable.hops i.timetable) (log_of i)) i.question m r n };
+
+    ghost best = { λ i. Best (journeys_over (basis_of T.Timetable.hops F.Tariff.model M.Measure.model i) (hops_after (T.Timetable.hops i.timetable) (log_of i)) i.question) i.question.destination i.question.rides };
+
+    ghost shows = { λ i m n r p. promised_shows (journeys_over (basis_of T.Timetable.hops F.Tariff.model M.Measure.model i) (hops_after (T.Timetable.hops i.timetable) (log_of i)) i.question) i.question.destination i.question.rides r n.sheet n.legs p.shown };
+
+    fn put(self, lent: &mut Lent<FareState<F::Ticket, M::Weight>>) -> Result<Answer, Refusal> {
+        ask_after(self, lent)
+    }
 }
 
 // Whether two boards, each after its log, print the same sheet: exactly where their questions have
@@ -65,31 +66,18 @@ pub fn compare<
     N: LawfulMeasure + Drop,
 >(
     first: Inquiry<T, F, M>,
-    store: &mut LabelStore<FareState<F::Ticket, M::Weight>>,
-    aboard: &mut [Passenger<FareState<F::Ticket, M::Weight>>],
-    out: &mut Printout,
+    lent: &mut Lent<FareState<F::Ticket, M::Weight>>,
     second: Inquiry<U, G, N>,
-    other_store: &mut LabelStore<FareState<G::Ticket, N::Weight>>,
-    other_aboard: &mut [Passenger<FareState<G::Ticket, N::Weight>>],
-    other_out: &mut Printout,
+    other: &mut Lent<FareState<G::Ticket, N::Weight>>,
 ) -> Result<bool, Refused>
-    ensures answer { result ≡ compared (asked_after (basis_of T.Timetable.hops F.Tariff.model M.Measure.model first.entry) (log_of first.entry) first.entry.question (lent store.old aboard.old out.old)) (asked_after (basis_of U.Timetable.hops G.Tariff.model N.Measure.model second.entry) (log_of second.entry) second.entry.question (lent other_store.old other_aboard.old other_out.old)) }
+    ensures answer { result ≡ compared (asked_after (basis_of T.Timetable.hops F.Tariff.model M.Measure.model first.entry) (log_of first.entry) first.entry.question (memory_of lent.old)) (asked_after (basis_of U.Timetable.hops G.Tariff.model N.Measure.model second.entry) (log_of second.entry) second.entry.question (memory_of other.old)) }
     ensures same_offers { Tells result (SameBestAfter (basis_of T.Timetable.hops F.Tariff.model M.Measure.model first.entry) (log_of first.entry) first.entry.question (basis_of U.Timetable.hops G.Tariff.model N.Measure.model second.entry) (log_of second.entry) second.entry.question) }
-    ensures first_left { (lent store.new aboard.new out.new) ≡ (asked_after (basis_of T.Timetable.hops F.Tariff.model M.Measure.model first.entry) (log_of first.entry) first.entry.question (lent store.old aboard.old out.old)).left }
-    ensures second_left { (lent other_store.new other_aboard.new other_out.new) ≡ left_of_second (asked_after (basis_of T.Timetable.hops F.Tariff.model M.Measure.model first.entry) (log_of first.entry) first.entry.question (lent store.old aboard.old out.old)).answer (lent other_store.old other_aboard.old other_out.old) (asked_after (basis_of U.Timetable.hops G.Tariff.model N.Measure.model second.entry) (log_of second.entry) second.entry.question (lent other_store.old other_aboard.old other_out.old)) }
-    ensures first_promise { Promise (basis_of T.Timetable.hops F.Tariff.model M.Measure.model first.entry) (hops_after (T.Timetable.hops first.entry.timetable) (log_of first.entry)) first.entry.question (lent store.old aboard.old out.old) (asked_after (basis_of T.Timetable.hops F.Tariff.model M.Measure.model first.entry) (log_of first.entry) first.entry.question (lent store.old aboard.old out.old)).answer (asked_after (basis_of T.Timetable.hops F.Tariff.model M.Measure.model first.entry) (log_of first.entry) first.entry.question (lent store.old aboard.old out.old)).left }
-    ensures second_promise { Promise (basis_of U.Timetable.hops G.Tariff.model N.Measure.model second.entry) (hops_after (U.Timetable.hops second.entry.timetable) (log_of second.entry)) second.entry.question (lent other_store.old other_aboard.old other_out.old) (asked_after (basis_of U.Timetable.hops G.Tariff.model N.Measure.model second.entry) (log_of second.entry) second.entry.question (lent other_store.old other_aboard.old other_out.old)).answer (asked_after (basis_of U.Timetable.hops G.Tariff.model N.Measure.model second.entry) (log_of second.entry) second.entry.question (lent other_store.old other_aboard.old other_out.old)).left }
+    ensures first_left { (memory_of lent.new) ≡ (asked_after (basis_of T.Timetable.hops F.Tariff.model M.Measure.model first.entry) (log_of first.entry) first.entry.question (memory_of lent.old)).left }
+    ensures second_left { (memory_of other.new) ≡ left_of_second (asked_after (basis_of T.Timetable.hops F.Tariff.model M.Measure.model first.entry) (log_of first.entry) first.entry.question (memory_of lent.old)).answer (memory_of other.old) (asked_after (basis_of U.Timetable.hops G.Tariff.model N.Measure.model second.entry) (log_of second.entry) second.entry.question (memory_of other.old)) }
+    ensures first_promise { Promise (basis_of T.Timetable.hops F.Tariff.model M.Measure.model first.entry) (hops_after (T.Timetable.hops first.entry.timetable) (log_of first.entry)) first.entry.question (memory_of lent.old) (asked_after (basis_of T.Timetable.hops F.Tariff.model M.Measure.model first.entry) (log_of first.entry) first.entry.question (memory_of lent.old)).answer (asked_after (basis_of T.Timetable.hops F.Tariff.model M.Measure.model first.entry) (log_of first.entry) first.entry.question (memory_of lent.old)).left }
+    ensures second_promise { Promise (basis_of U.Timetable.hops G.Tariff.model N.Measure.model second.entry) (hops_after (U.Timetable.hops second.entry.timetable) (log_of second.entry)) second.entry.question (memory_of other.old) (asked_after (basis_of U.Timetable.hops G.Tariff.model N.Measure.model second.entry) (log_of second.entry) second.entry.question (memory_of other.old)).answer (asked_after (basis_of U.Timetable.hops G.Tariff.model N.Measure.model second.entry) (log_of second.entry) second.entry.question (memory_of other.old)).left }
+    ensures first_lists { SameLists lent.old lent.new }
+    ensures second_lists { SameLists other.old other.new }
 {
-    let bytes = match ask_after(first, store, aboard, out) {
-        Ok(answer) => answer.bytes,
-        Err(refusal) => {
-            drop(second);
-            return Err(Refused::First(refusal));
-        }
-    };
-    let other_bytes = match ask_after(second, other_store, other_aboard, other_out) {
-        Ok(answer) => answer.bytes,
-        Err(refusal) => return Err(Refused::Second(refusal)),
-    };
-    Ok(is_same_sheet(out, bytes, other_out, other_bytes))
+    planner::compare(first, lent, second, other)
 }

@@ -9,9 +9,6 @@ const NIGHT: u8 = 2;
 
 const FIRST_CLASS: u8 = 3;
 
-// The place that a refusal of anything but a rule gives.
-const REST: u8 = 128;
-
 fn at_zones(zones: u32) -> Gauges {
     Gauges {
         metres: 0,
@@ -41,9 +38,7 @@ fn ferry_table() -> Result<RuleTable, Refusal> {
 
 #[test]
 fn free_tickets_cover_all_from_themselves_on(rt: HostRuntime) -> Result<(), Fail> {
-    let Ok(table) = ferry_table() else {
-        return Err(Fail::new("refused"));
-    };
+    let table = ferry_table()?;
     for k in 0..3u8 {
         for l in 0..4u8 {
             assert_eq!(rt; table.is_covering(k, l), k <= l && l < 3);
@@ -56,58 +51,48 @@ fn free_tickets_cover_all_from_themselves_on(rt: HostRuntime) -> Result<(), Fail
 #[test]
 fn fixed_tickets_cover_themselves_and_others_none(rt: HostRuntime) -> Result<(), Fail> {
     let apart = [rule(0, 1, 1 << NIGHT, 0), rule(0, 2, 1 << FIRST_CLASS, 0)];
-    let Ok(fixed) = RuleTable::open(&[200, 300, 450], &apart, [0; 4]) else {
-        return Err(Fail::new("refused"));
-    };
+    let fixed = RuleTable::open(&[200, 300, 450], &apart, [0; 4])?;
     assert!(rt; fixed.is_covering(0, 0));
     assert!(rt; !fixed.is_covering(0, 1));
     let by_zones = [rule(0, 1, 1 << NIGHT, 2), rule(0, 2, 1 << FIRST_CLASS, 0)];
-    let Ok(neither) = RuleTable::open(&[200, 300, 450], &by_zones, [0; 4]) else {
-        return Err(Fail::new("refused"));
-    };
+    let neither = RuleTable::open(&[200, 300, 450], &by_zones, [0; 4])?;
     assert!(rt; !neither.is_covering(0, 0));
     assert!(rt; neither.is_covering(1, 1));
     Ok(())
 }
 
-// The place at which a table is refused.
-fn refused_place(prices: &[u32], rules: &[Rule], start: u8) -> Option<u8> {
-    match RuleTable::open(prices, rules, [0, 0, 0, start]) {
-        Ok(_) => None,
-        Err(Refusal::Rest) => Some(REST),
-        Err(Refusal::BadRule { place }) => Some(place),
-    }
+fn refusal(prices: &[u32], rules: &[Rule], start: u8) -> Option<Refusal> {
+    RuleTable::open(prices, rules, [0, 0, 0, start]).err()
 }
 
 #[test]
 fn tables_are_refused_past_each_limit(rt: HostRuntime) {
     let up = rule(0, 1, 0, 0);
-    assert_eq!(rt; refused_place(&[], &[], 0), Some(REST));
-    assert_eq!(rt; refused_place(&[100; 32], &[up; 128], 31), None);
-    assert_eq!(rt; refused_place(&[100; 33], &[up], 0), Some(REST));
-    assert_eq!(rt; refused_place(&[100; 32], &[up; 129], 0), Some(REST));
-    assert_eq!(rt; refused_place(&[100, 100], &[up], 2), Some(REST));
-    assert_eq!(rt; refused_place(&[100, 9_999_999], &[up], 1), None);
-    assert_eq!(rt; refused_place(&[100, 10_000_000], &[up], 1), Some(REST));
+    assert_eq!(rt; refusal(&[], &[], 0), Some(Refusal::Rest));
+    assert_eq!(rt; refusal(&[100; 32], &[up; 128], 31), None);
+    assert_eq!(rt; refusal(&[100; 33], &[up], 0), Some(Refusal::Rest));
+    assert_eq!(rt; refusal(&[100; 32], &[up; 129], 0), Some(Refusal::Rest));
+    assert_eq!(rt; refusal(&[100, 100], &[up], 2), Some(Refusal::Rest));
+    assert_eq!(rt; refusal(&[100, 9_999_999], &[up], 1), None);
+    assert_eq!(rt; refusal(&[100, 10_000_000], &[up], 1), Some(Refusal::Rest));
     assert_eq!(rt;
-        refused_place(&[100, 100], &[up, rule(1, 1, 0, 0)], 0),
-        Some(1)
+        refusal(&[100, 100], &[up, rule(1, 1, 0, 0)], 0),
+        Some(Refusal::BadRule { place: 1 })
     );
     assert_eq!(rt;
-        refused_place(&[100, 100], &[rule(1, 2, 0, 0), up], 0),
-        Some(0)
+        refusal(&[100, 100], &[rule(1, 2, 0, 0), up], 0),
+        Some(Refusal::BadRule { place: 0 })
     );
-    assert_eq!(rt; refused_place(&[100, 99], &[up], 0), Some(0));
+    assert_eq!(rt;
+        refusal(&[100, 99], &[up], 0),
+        Some(Refusal::BadRule { place: 0 })
+    );
 }
 
 #[test]
 fn a_surcharge_is_held_at_the_highest_price(rt: HostRuntime) -> Result<(), Fail> {
-    let Ok(table) = RuleTable::open(&[9_900_000, 9_900_001], &[], [0, 1, 0, 0]) else {
-        return Err(Fail::new("refused"));
-    };
-    let Ok(night) = Surcharge::open(table, NIGHT, 99_999) else {
-        return Err(Fail::new("refused"));
-    };
+    let table = RuleTable::open(&[9_900_000, 9_900_001], &[], [0, 1, 0, 0])?;
+    let night = Surcharge::open(table, NIGHT, 99_999)?;
     let none = at_zones(0);
     assert_eq!(rt;
         night.price(night.next(night.start(0), none, NIGHT)),
@@ -180,15 +165,9 @@ fn fare<F: Tariff>(tariff: &F, zones: &[u8; 3], event: u8) -> u32 {
 
 #[test]
 fn worked_fares(rt: HostRuntime) -> Result<(), Fail> {
-    let Ok(ferry) = ferry_table() else {
-        return Err(Fail::new("refused"));
-    };
-    let Ok(ladder) = Ladder::open(100, 50) else {
-        return Err(Fail::new("refused"));
-    };
-    let Ok(at_night) = Surcharge::open(ladder, NIGHT, 75) else {
-        return Err(Fail::new("refused"));
-    };
+    let ferry = ferry_table()?;
+    let ladder = Ladder::open(100, 50)?;
+    let at_night = Surcharge::open(ladder, NIGHT, 75)?;
     for example in &EXAMPLES {
         assert_eq!(rt; fare(&ferry, &example.zones, example.event), example.ferry);
         assert_eq!(rt;

@@ -85,11 +85,8 @@ const BY_LADDER: [Ridden; 2] = [
     },
 ];
 
-fn with_night<T: Drop>(below: T) -> Result<Surcharge<T>, Fail> {
-    let Ok(tariff) = Surcharge::open(below, NIGHT, NIGHT_EXTRA) else {
-        return Err(Fail::new("the surcharge is refused"));
-    };
-    Ok(tariff)
+fn with_night<T: Drop>(below: T) -> Result<Surcharge<T>, fares::Refusal> {
+    Surcharge::open(below, NIGHT, NIGHT_EXTRA)
 }
 
 fn gauges(metres: u32, zones: u32) -> Gauges {
@@ -111,12 +108,9 @@ fn rule(ticket: u8, target: u8, minima: Gauges) -> Rule {
 }
 
 // Three tickets: the second and the third from these gauges on.
-fn table(second: Gauges, third: Gauges) -> Result<RuleTable, Fail> {
+fn table(second: Gauges, third: Gauges) -> Result<RuleTable, rule_table::Refusal> {
     let rules = [rule(0, 1, second), rule(0, 2, third), rule(1, 2, third)];
-    let Ok(table) = RuleTable::open(&[200, 300, 450], &rules, [0; 4]) else {
-        return Err(Fail::new("the rule table is refused"));
-    };
-    Ok(table)
+    RuleTable::open(&[200, 300, 450], &rules, [0; 4])
 }
 
 fn ticket_after<F: Tariff, M: Measure>(tariff: &F, measure: &M, ridden: &Ridden) -> F::Ticket {
@@ -150,9 +144,7 @@ fn fares_worked_by_hand(rt: HostRuntime) -> Result<(), Fail> {
     check_each(&rt, &by_zones, &Zones {}, &BY_ZONES);
     let by_metres = with_night(table(gauges(2_000, 0), gauges(5_000, 0))?)?;
     check_each(&rt, &by_metres, &Metres {}, &BY_METRES);
-    let Ok(ladder) = Ladder::open(100, 50) else {
-        return Err(Fail::new("the ladder is refused"));
-    };
-    check_each(&rt, &with_night(ladder)?, &Zones {}, &BY_LADDER);
+    let by_rungs = with_night(Ladder::open(100, 50)?)?;
+    check_each(&rt, &by_rungs, &Zones {}, &BY_LADDER);
     Ok(())
 }

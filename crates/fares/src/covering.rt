@@ -5,7 +5,8 @@ use crate::fare_state::FareState;
 use crate::measure::{LawfulMeasure, Measure};
 use crate::tariff::{LawfulTariff, Tariff};
 
-// Whether `a` is never worse than `b`, whatever is ridden from here on.
+// Whether `a` is never worse than `b`, whatever is ridden from here on. (Tariff and measure are two parameters, as of an
+// update, since a struct of both is no plainer.)
 pub fn covers<F: Tariff, M: Measure>(
     tariff: &F,
     measure: &M,

@@ -3,7 +3,7 @@ ghost use Rattle.fares.specs.Limits.{top_reading};
 
 // Four readings that a tariff may look at: gauges 0 to 3. Their range is part of the type, since a law about every
 // reading speaks of those that a gauge can show.
-#[derive(Clone, Copy)]
+#[derive(Clone, Copy, Debug, PartialEq, Eq)]
 pub struct Gauges {
     pub metres: u32,
     pub stops: u32,

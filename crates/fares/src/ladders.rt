@@ -15,7 +15,7 @@ const TOP_FIRST: u32 = 999_999;
 const TOP_STEP: u32 = 99_999;
 
 // Sixteen tickets that rise with the zones touched: ticket i costs `first + i * step`.
-#[derive(Clone, Copy)]
+#[derive(Clone, Copy, Debug, PartialEq, Eq)]
 pub struct Ladder {
     first: u32,
     step: u32,

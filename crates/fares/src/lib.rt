@@ -14,6 +14,7 @@ mod fare_state;
 mod gauges;
 mod ladders;
 mod measure;
+mod readings;
 mod refusal;
 mod surcharges;
 mod tariff;

@@ -53,14 +53,14 @@ impl<T: Tariff> Tariff for Surcharge<T> {
 
     ghost priced = { λ t. surcharge_priced t.event t.extra (T.Tariff.model t.below) (T.Tariff.priced t.below) };
 
-    fn start(&self, class: u8) -> Marked<T::Ticket> {
+    fn start(&self, class: u8) -> Self::Ticket {
         Marked {
             below: self.below.start(class),
             marked: false,
         }
     }
 
-    fn price(&self, ticket: Marked<T::Ticket>) -> u32 {
+    fn price(&self, ticket: Self::Ticket) -> u32 {
         let below = self.below.price(ticket.below);
         if ticket.marked {
             below.saturating_add(self.extra).min(TOP_PRICE)
@@ -69,14 +69,14 @@ impl<T: Tariff> Tariff for Surcharge<T> {
         }
     }
 
-    fn next(&self, ticket: Marked<T::Ticket>, gauges: Gauges, event: u8) -> Marked<T::Ticket> {
+    fn next(&self, ticket: Self::Ticket, gauges: Gauges, event: u8) -> Self::Ticket {
         Marked {
             below: self.below.next(ticket.below, gauges, event),
             marked: ticket.marked || event == self.event,
         }
     }
 
-    fn covers(&self, ticket: Marked<T::Ticket>, other: Marked<T::Ticket>) -> bool {
+    fn covers(&self, ticket: Self::Ticket, other: Self::Ticket) -> bool {
         self.below.covers(ticket.below, other.below) && (!ticket.marked || other.marked)
     }
 }

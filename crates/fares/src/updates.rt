@@ -7,6 +7,8 @@ use crate::tariff::Tariff;
 
 const CHANGE_EVENT: u8 = 1;
 
+// A struct of tariff and measure is no plainer: each clause would say `self.now.tariff.now` for `tariff.now`.
+
 // The fare at the start stop, from its class and its zone.
 pub fn start<F: Tariff, M: Measure>(
     tariff: &F,

@@ -6,12 +6,9 @@ mod shown;
 
 use ferry_case::ask_ferry;
 use journeys::{Leg, LegKind};
-use planner::Printout;
+use planner::MOST_LEGS;
 use sheet::SHEET_BYTES;
 use shown::{Hex, LegLine};
-
-// 32 rows with at most 17 legs each.
-const MOST_LEGS: usize = 544;
 
 const NO_LEG: Leg = Leg {
     row: 0,
@@ -23,11 +20,7 @@ const NO_LEG: Leg = Leg {
 fn run(rt: &impl Print) -> anyhow::Result<()> {
     let mut sheet = [0; SHEET_BYTES];
     let mut legs = [NO_LEG; MOST_LEGS];
-    let mut out = Printout {
-        sheet: &mut sheet,
-        legs: &mut legs,
-    };
-    let answer = ask_ferry(&mut out)?;
+    let answer = ask_ferry(&mut sheet, &mut legs)?;
     rt.println(Hex(&sheet[0..answer.bytes.min(SHEET_BYTES)]))?;
     for leg in legs.iter().take(answer.legs) {
         rt.println(LegLine(leg))?;

@@ -26,10 +26,7 @@ pub struct LegLine<'a>(pub &'a Leg);
 fn kind_digit(kind: LegKind) -> u8
     ensures { elim kind [ Walk ↦ result ≡ 0 | Ride ↦ result ≡ 1 ] }
 {
-    match kind {
-        LegKind::Walk => 0,
-        LegKind::Ride => 1,
-    }
+    kind as u8
 }
 
 impl fmt::Display for LegLine<'_> {

@@ -1,3 +1,4 @@
 pub mod Tickets
 pub mod Days
 pub mod Computed
+pub mod Opened

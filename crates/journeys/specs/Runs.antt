@@ -1,6 +1,6 @@
 -- Runs that write into lists with so many places, and end where one of them is full.
 -- Assumes nothing.
-use Rattle.std.specs.Prelude.{◌≡◌, ℕ, suc, Bool, cond, List, [], ◌∷◌, ◌++◌, length, drop, Some, None, Option, nat_lt}
+use Rattle.std.specs.Prelude.{ℕ, suc, Bool, cond, List, [], ◌∷◌, ◌++◌, length, drop, nat_lt}
 use Rattle.journeys.specs.declared.full.Full.{Full}
 use Rattle.journeys.specs.Lists.{any}
 
@@ -36,14 +36,3 @@ push test room q x xs = cond (any test xs) (on xs) (cond (nat_lt (length xs) roo
 abbrev pub result_of : {X : Type 0} → Run X → X
 result_of (on x) = x
 result_of (ended q x) = x
-
--- how many places it takes, where none was missing
-abbrev pub used_of : {A : Type 0} → Run (List A) → Option ℕ
-used_of (on xs) = Some (length xs)
-used_of (ended q xs) = None
-
--- The places of a lent list held `old` and now hold `new`: what the run has made, and behind it what they held.
--- `o` says how many are used, where none was missing.
-pub record Written {A : Type 0} (old new : List A) (o : Option ℕ) (r : Run (List A)) : Type 0 where
-  pub places : new ≡ overlay (result_of r) old
-  pub used : o ≡ used_of r

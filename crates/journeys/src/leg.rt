@@ -1,5 +1,5 @@
 // Whether a leg is walked or ridden.
-#[derive(Clone, Copy)]
+#[derive(Clone, Copy, Debug, PartialEq, Eq)]
 pub enum LegKind {
     Walk,
     Ride,
@@ -7,7 +7,7 @@ pub enum LegKind {
 
 // One leg of the journey that is handed out with a row: the first and the last hop of a ride, or a
 // walk's footpath twice.
-#[derive(Clone, Copy)]
+#[derive(Clone, Copy, Debug, PartialEq, Eq)]
 pub struct Leg {
     pub row: u8,
     pub kind: LegKind,

@@ -18,10 +18,7 @@ pub struct NetworkFare<'a, 'b, F, M> {
 fn stop_at(stops: &[Stop], number: u32) -> Stop
     ensures { result ≡ stop_of stops.now number }
 {
-    if (number as usize) < stops.len() {
-        return stops[number as usize];
-    }
-    Stop { zone: 0, class: 0 }
+    stops.get(number as usize).copied().unwrap_or_default()
 }
 
 impl<'a, 'b, F: Tariff, M: Measure> Fare for NetworkFare<'a, 'b, F, M> {

@@ -2,14 +2,14 @@
 use Rattle.std.specs.Prelude.{◌≡◌, ℕ, ◌%◌, ◌^◌, ◌≤◌, bit_and, bit_or, count_ones, refl}
 use Rattle.std.proofs.Common.{sym, ap, ap₂, subst₂, ◌∙◌, mod-eq_of_lt, arith}
 use Rattle.std.specs.Int.Bits.{and_self, or_zero_r}
-use Rattle.std.proofs.lemmas.Nat.{or_comm, or_lt}
+use Rattle.std.proofs.lemmas.Nat.{and_assoc, or_comm, or_lt}
 use Rattle.std.proofs.lemmas.Bool.{eqb-true, eq-eqb}
 use Rattle.fares.specs.Measures.{MeasureLaws}
 use Rattle.measures.specs.Bounds.{zone_count}
 use Rattle.measures.specs.ZoneSets.{zones_model}
 use Rattle.measures.specs.declared.weights.ZoneSet.{ZoneSet}
 use Rattle.measures.specs.SameWeights.{same_zones}
-use Rattle.measures.specs.Digits.{or_assoc, and_assoc, or_keeps, ones_keeps}
+use Rattle.measures.specs.Digits.{or_assoc, or_keeps, ones_keeps}
 
 -- a set loses no bit
 whole : (a : ZoneSet) → a.members % 2 ^ zone_count ≡ a.members
@@ -45,7 +45,7 @@ zones_laws = record {
 }
   where
     within : (a b c : ℕ) → bit_and a b ≡ a → bit_and b c ≡ b → bit_and a c ≡ a
-    within a b c p q = ap (λ (x : ℕ). bit_and x c) (sym p) ∙ and_assoc a b c ∙ ap (bit_and a) q ∙ p
+    within a b c p q = ap (λ (x : ℕ). bit_and x c) (sym p) ∙ and_assoc c a b ∙ ap (bit_and a) q ∙ p
 
     on_left : (a b c : ℕ) → bit_and a b ≡ a → bit_and (bit_or c a) (bit_or c b) ≡ bit_or c a
     on_left a b c p = ap₂ bit_and (or_comm c a) (or_comm c b) ∙ or_keeps a b c p ∙ or_comm a c

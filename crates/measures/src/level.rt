@@ -1,5 +1,4 @@
-ghost use Rattle.std.specs.Prelude.{◌≡◌, min};
-ghost use Rattle.measures.specs.Bounds.{top_level};
+ghost use Rattle.std.specs.Prelude.{◌≡◌};
 ghost use Rattle.measures.specs.Heights.{held_level, level_model};
 ghost use Rattle.measures.specs.HeightLaws.{level_laws};
 
@@ -9,21 +8,19 @@ use fares::{Gauges, LawfulMeasure, Measure};
 
 const TOP_LEVEL: u8 = 7;
 
-fn held(level: u8) -> u8
-    ensures { result ≡ min level top_level }
-{
-    level.min(TOP_LEVEL)
-}
-
 // A level above the highest one is held there, so that every hop has a weight.
 fn height(level: u8) -> Height
     ensures { result ≡ held_level level }
 {
-    Height { value: held(level) }
+    Height {
+        value: level.min(TOP_LEVEL),
+    }
 }
 
+// No instance of `Count`: its weight, its sum, its limit and its gauge are others, and what is left is `Measure` itself.
+
 // The highest level ridden, shown in gauge 3.
-#[derive(Clone, Copy)]
+#[derive(Clone, Copy, Debug, PartialEq, Eq)]
 pub struct Level {}
 
 impl Measure for Level {

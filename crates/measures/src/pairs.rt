@@ -20,7 +20,7 @@ fn greater(g: Gauges, h: Gauges) -> Gauges
 }
 
 // Any two measures side by side, as pairs of weights.
-#[derive(Clone, Copy)]
+#[derive(Clone, Copy, Debug, PartialEq, Eq)]
 pub struct Pair<M, N> {
     pub first: M,
     pub second: N,
@@ -31,43 +31,39 @@ impl<M: Measure, N: Measure> Measure for Pair<M, N> {
 
     ghost model = { λ p. pair_model (M.Measure.model p.first) (N.Measure.model p.second) };
 
-    fn neutral(&self) -> Both<M::Weight, N::Weight> {
+    fn neutral(&self) -> Self::Weight {
         Both {
             first: self.first.neutral(),
             second: self.second.neutral(),
         }
     }
 
-    fn add(
-        &self,
-        a: Both<M::Weight, N::Weight>,
-        b: Both<M::Weight, N::Weight>,
-    ) -> Both<M::Weight, N::Weight> {
+    fn add(&self, a: Self::Weight, b: Self::Weight) -> Self::Weight {
         Both {
             first: self.first.add(a.first, b.first),
             second: self.second.add(a.second, b.second),
         }
     }
 
-    fn at_most(&self, a: Both<M::Weight, N::Weight>, b: Both<M::Weight, N::Weight>) -> bool {
+    fn at_most(&self, a: Self::Weight, b: Self::Weight) -> bool {
         self.first.at_most(a.first, b.first) && self.second.at_most(a.second, b.second)
     }
 
-    fn gauges(&self, weight: Both<M::Weight, N::Weight>) -> Gauges {
+    fn gauges(&self, weight: Self::Weight) -> Gauges {
         greater(
             self.first.gauges(weight.first),
             self.second.gauges(weight.second),
         )
     }
 
-    fn start(&self, zone: u8) -> Both<M::Weight, N::Weight> {
+    fn start(&self, zone: u8) -> Self::Weight {
         Both {
             first: self.first.start(zone),
             second: self.second.start(zone),
         }
     }
 
-    fn hop(&self, metres: u32, level: u8, zone: u8) -> Both<M::Weight, N::Weight> {
+    fn hop(&self, metres: u32, level: u8, zone: u8) -> Self::Weight {
         Both {
             first: self.first.hop(metres, level, zone),
             second: self.second.hop(metres, level, zone),

@@ -22,7 +22,7 @@ fn zone_set(bits: u64) -> ZoneSet
 }
 
 // The zones touched; gauge 2 shows how many.
-#[derive(Clone, Copy)]
+#[derive(Clone, Copy, Debug, PartialEq, Eq)]
 pub struct Zones {}
 
 impl Measure for Zones {
@@ -61,6 +61,7 @@ impl LawfulMeasure for Zones {
 
 // The bits are sets: sums are unions, the order is inclusion, and the gauge counts members. There is nothing to run: the
 // contract is the theorem.
+#[tactic(auto, using(crate::proofs::ZoneBits::zones_are_sets))]
 pub fn zones_are_sets()
     ensures { ZonesAreSets }
 {}

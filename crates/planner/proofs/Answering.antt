@@ -1,7 +1,7 @@
 -- From what the scan and the selection tell to the outcome of the question.
-use Rattle.std.proofs.Common.{◌≡◌, ℕ, ◌-◌, ◌<◌, ◌≤◌, ltb, List, length, take, Ok, Err, sym, refl, ap, ◌∙◌, subst, arith, length-append, length-drop}
-use Rattle.std.proofs.lemmas.List.{take_all}
-use Rattle.std.proofs.lemmas.Bool.{cond-true, cond-false, lt-ltb, le-ltb}
+use Rattle.std.specs.Prelude.{nat_lt}
+use Rattle.std.proofs.Common.{◌≡◌, ℕ, ◌<◌, ◌≤◌, Bool, true, false, cond, ltb, List, length, take, Ok, Err, sym, refl, ap, ◌∙◌, subst, arith}
+use Rattle.std.proofs.lemmas.Bool.{cond-true, cond-false, lt-ltb, le-ltb, ltb-true, ltb-false}
 use Rattle.journeys.specs.declared.best_offer.BestOffer.{BestOffer}
 use Rattle.journeys.specs.declared.full.Full.{Full}
 use Rattle.journeys.specs.declared.full.Full.TheVariants.{Store, Aboard}
@@ -17,11 +17,10 @@ use Rattle.scan.specs.Scanned.{told, used_after}
 use Rattle.scan.proofs.Loops.{take_overlay}
 use Rattle.sheet.specs.Rows.{most_rows}
 use Rattle.planner.specs.declared.answer.Answer.{Answer}
+use Rattle.planner.specs.declared.refusal.Refusal.{Refusal}
 use Rattle.planner.specs.declared.refusal.Refusal.TheVariants.{StoreFull, ManyOffers}
+use Rattle.planner.specs.Selecting.{selected}
 use Rattle.planner.specs.Outcome.{Memory, Leaves, scanned, refusal_of_scan, counted, printed}
-
-overlay_length : {A : Type 0} (xs old : List A) → length xs ≤ length old → length (overlay xs old) ≡ length old
-overlay_length xs old h = simp (length-append, length-drop) (omega arith)
 
 module _ {S : Type 0} (f : FareModel S) (dest : ℕ) (m : Memory S) where
   abbrev room : Room
@@ -29,7 +28,7 @@ module _ {S : Type 0} (f : FareModel S) (dest : ℕ) (m : Memory S) where
 
   -- a full list has ended the scan
   pub ended_leaves : (r : Run (Stage S)) (full : Full) (n : ℕ) (labels : List (Label S)) (written : ℕ) (aboard : List (Passenger S)) → Throughout (StoreFew f room) (StoreFilled f room) r → Err full ≡ told r
-      → labels ≡ overlay (result_of r).store m.labels → written ≡ used_after r → aboard ≡ (result_of r).places → n ≡ length labels
+      → labels ≡ overlay (result_of r).store m.labels → written ≡ used_after r → aboard ≡ (result_of r).places → n ≡ length m.labels
       → Leaves (scanned f dest m r) (Err (refusal_of_scan full n)) labels written aboard m.sheet m.legs
   ended_leaves (on s) full n labels written aboard t e a u b c = absurd (let z : ◌≡◌ {A = ℕ} 0 1 = cc in omega arith)
   ended_leaves (ended q s) full n labels written aboard t e a u b c = record {
@@ -41,11 +40,8 @@ module _ {S : Type 0} (f : FareModel S) (dest : ℕ) (m : Memory S) where
     legs = refl;
   }
     where
-      size : n ≡ length m.labels
-      size = c ∙ ap length a ∙ overlay_length s.store m.labels t.0
-
       same : (k : Full) → (k ≡ Store → length s.store ≡ length m.labels) → refusal_of_scan k n ≡ refusal_of_scan k (length s.store)
-      same Store h = ap StoreFull (size ∙ sym (h refl))
+      same Store h = ap StoreFull (c ∙ sym (h refl))
       same (Aboard hop) h = refl
 
   -- the scan has come to its end
@@ -74,8 +70,17 @@ module _ {S : Type 0} (f : FareModel S) (dest : ℕ) (m : Memory S) where
       subst (λ o. Leaves o (Ok answer) labels written aboard sheet legs) (sym (ap (scanned f dest m) e ∙ cond-false (ltb most_rows (length (best_offers f dest s.store))) _ _ (le-ltb most_rows _ h)))
       (record { answer = ap Ok c; labels = a ∙ ap (λ (z : Run (Stage S)). overlay (result_of z).store m.labels) e; written = u ∙ ap used_after e; aboard = b ∙ ap (λ (z : Run (Stage S)). (result_of z).places) e; sheet = d; legs = g })
 
--- the best offers, where they fit
-pub offers_taken : (best blank offers : List BestOffer) (count : ℕ) → count ≡ length best → count ≤ length blank → offers ≡ overlay (take (length blank) best) blank → take (count - 0) offers ≡ best
-offers_taken best blank offers count c h e =
-    let a : take (length blank) best ≡ best = take_all (length blank) best (omega arith) in
-    ap (λ (n : ℕ). take n offers) (let z : count - 0 ≡ length best = omega arith in z) ∙ ap (take (length best)) (e ∙ ap (λ l. overlay l blank) a) ∙ take_overlay best blank (length best) refl
+-- what the selection tells: at most 32 best offers, as they are, or how many there are
+pub many_offers : (os : List BestOffer) (e : Refusal) → Err e ≡ selected os → (32 < length os) × (e ≡ ManyOffers (length os))
+many_offers os e p = go (nat_lt 32 (length os)) refl p
+  where
+    go : (b : Bool) → nat_lt 32 (length os) ≡ b → Err e ≡ cond b (Err (ManyOffers (length os))) (Ok os) → (32 < length os) × (e ≡ ManyOffers (length os))
+    go true q r = (ltb-true 32 (length os) q, (let z : e ≡ ManyOffers (length os) = cc in z))
+    go false q r = absurd (let z : ◌≡◌ {A = ℕ} 0 1 = cc in omega arith)
+
+pub few_offers : (os taken : List BestOffer) → Ok taken ≡ selected os → (length os ≤ 32) × (taken ≡ os)
+few_offers os taken p = go (nat_lt 32 (length os)) refl p
+  where
+    go : (b : Bool) → nat_lt 32 (length os) ≡ b → Ok taken ≡ cond b (Err (ManyOffers (length os))) (Ok os) → (length os ≤ 32) × (taken ≡ os)
+    go true q r = absurd (let z : ◌≡◌ {A = ℕ} 0 1 = cc in omega arith)
+    go false q r = (ltb-false 32 (length os) q, (let z : taken ≡ os = cc in z))

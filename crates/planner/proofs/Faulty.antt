@@ -1,5 +1,7 @@
 -- The first fault of a question, by the test that finds it.
-use Rattle.std.proofs.Common.{◌≡◌, ℕ, List, length, Some, None, Option, refl, ap, ◌∙◌}
+use Rattle.std.proofs.Common.{◌≡◌, ℕ, List, length, Some, None, Option, Ok, Err, Result, refl, ap, ◌∙◌, subst, arith}
+use Rattle.std.specs.Prelude.{IsErrAnd, MatchResult}
+use Rattle.std.specs.Result.{result_err}
 use Rattle.timetable.specs.declared.hops.Hop.{Hop}
 use Rattle.timetable.specs.Table.{count_of}
 use Rattle.journeys.specs.declared.network.Footpath.{Footpath}
@@ -28,3 +30,22 @@ module _ (q : Asked) (stops : List Stop) (paths : List Footpath) (hops : List Ho
 
   pub no_fault : None ≡ fault_of_question q (length stops) count → None ≡ fault_of_network stops paths hops → None ≡ fault_of_room bytes legs → None ≡ fault_of q stops paths hops bytes legs
   no_fault p r s = by_tests None None None p r s
+
+-- a call that fails with this error
+pub fails_with : {X E : Type 0} (r : Result X E) (x : E) → IsErrAnd r (λ e. e ≡ x) → result_err r ≡ Some x
+fails_with (Ok v) x h = absurd h
+fails_with (Err e) x h = ap Some h
+
+pub err_is : {X E : Type 0} (r : Result X E) (x : E) → IsErrAnd r (λ e. e ≡ x) → r ≡ Err x
+err_is (Ok v) x h = absurd h
+err_is (Err e) x h = ap Err h
+
+-- a call whose error is told in other words has given what is given
+module _ {X E D : Type 0} (P : E → D → Type 0) where
+  pub was_ok : (r : Result X E) (m : Result X D) (x : X) → MatchResult r (λ a. m ≡ Ok a) (λ e. IsErrAnd m (P e)) → m ≡ Ok x → r ≡ Ok x
+  was_ok (Ok a) m x c is = ap Ok (let z : a ≡ x = cc in z)
+  was_ok (Err e) m x c is = absurd (subst (λ q. IsErrAnd q (P e)) is c)
+
+  pub was_err : (r : Result X E) (m : Result X D) (d : D) → MatchResult r (λ a. m ≡ Ok a) (λ e. IsErrAnd m (P e)) → m ≡ Err d → (e : E) × ((r ≡ Err e) × P e d)
+  was_err (Ok a) m d c is = absurd (let z : ◌≡◌ {A = ℕ} 0 1 = cc in omega arith)
+  was_err (Err e) m d c is = (e, ((λ i. Err e), subst (λ q. IsErrAnd q (P e)) is c))

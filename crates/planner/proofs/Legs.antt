@@ -1,8 +1,9 @@
 -- The legs to a label, from those to the label that it comes from; and a list with something written at a place.
-use Rattle.std.proofs.Common.{◌≡◌, ℕ, zero, suc, ◌+◌, ◌<◌, ◌≤◌, List, [], ◌∷◌, ◌++◌, map, length, get_or, take, drop, set, sym, ap, ◌∙◌, subst, arith, length-append, take-append-drop, length-take}
+use Rattle.std.proofs.Common.{◌≡◌, ℕ, zero, suc, ◌+◌, ◌<◌, ◌≤◌, List, [], ◌∷◌, ◌++◌, map, length, get_or, take, drop, set, Option, Some, None, sym, ap, ◌∙◌, subst, arith, length-append, take-append-drop, length-take}
 use lib.ListN.{length-map}
 use Rattle.std.proofs.lemmas.List.{take_more, map-append}
 use Rattle.journeys.specs.declared.label.Label.{Label}
+use Rattle.journeys.specs.declared.label.Way.{Way}
 use Rattle.journeys.specs.declared.label.Way.TheVariants.{Origin, Walked, Rode}
 use Rattle.journeys.specs.declared.leg.Leg.{Leg as SheetLeg}
 use Rattle.journeys.specs.Journey.{Leg, walk, ride}
@@ -11,7 +12,7 @@ use Rattle.journeys.specs.Traces.{legs_by, traces, legs_of, spelled}
 use Rattle.journeys.proofs.Traces.{legs_stay, legs_push}
 use Rattle.sheet.specs.Outcome.{pasted}
 use Rattle.sheet.proofs.Pasting.{pasted_one, pasted_more}
-use Rattle.planner.specs.Tracing.{Earlier, Backward}
+use Rattle.planner.specs.Tracing.{Earlier, Backward, last_leg}
 
 eachi_get : {A : Type 0} (P : ℕ → A → Type 0) (i : ℕ) (xs : List A) → Eachi P i xs → (j : ℕ) (d : A) → j < length xs → P (i + j) (get_or xs j d)
 eachi_get P i [] e j d h = absurd (omega arith)
@@ -42,14 +43,37 @@ module _ {S : Type 0} (ls : List (Label S)) (j : ℕ) (l : Label S) (h : j < len
   legs_before : (from : ℕ) → from < j → legs_of (take j ls) from ≡ legs_of ls from
   legs_before from b = sym (ap (λ xs. legs_of xs from) (sym (take-append-drop j ls)) ∙ legs_stay (take j ls) (drop j ls) from (omega (arith, first_length)))
 
-  pub legs_origin : l.way ≡ Origin → legs_of ls j ≡ []
-  legs_origin w = legs_at ∙ ap (λ x. legs_by x (traces (take j ls))) w
+  -- no leg ends at a label without a last leg
+  none_by : (w : Way) (row : ℕ) → l.way ≡ w → last_leg row w ≡ None → legs_of ls j ≡ []
+  none_by Origin row is e = legs_at ∙ ap (λ x. legs_by x (traces (take j ls))) is
+  none_by (Walked path from) row is e = absurd (let z : ◌≡◌ {A = ℕ} 0 1 = cc in omega arith)
+  none_by (Rode first last from) row is e = absurd (let z : ◌≡◌ {A = ℕ} 0 1 = cc in omega arith)
 
-  pub legs_walked : (path from : ℕ) → l.way ≡ Walked path from → from < j → legs_of ls j ≡ legs_of ls from ++ (walk path ∷ [])
-  legs_walked path from w b = legs_at ∙ ap (λ x. legs_by x (traces (take j ls))) w ∙ ap (λ xs. xs ++ (walk path ∷ [])) (legs_before from b)
+  pub no_leg : (row : ℕ) → last_leg row l.way ≡ None → legs_of ls j ≡ []
+  no_leg row e = none_by l.way row (λ i. l.way) e
 
-  pub legs_rode : (first last from : ℕ) → l.way ≡ Rode first last from → from < j → legs_of ls j ≡ legs_of ls from ++ (ride first last ∷ [])
-  legs_rode first last from w b = legs_at ∙ ap (λ x. legs_by x (traces (take j ls))) w ∙ ap (λ xs. xs ++ (ride first last ∷ [])) (legs_before from b)
+  -- the last leg to a label is the one after those to the label before it
+  module _ (row : ℕ) (leg : SheetLeg) (from : ℕ) where
+    abbrev pub After : Type 0
+    After = (from < j) × ((x : Leg) × ((leg ≡ spelled row x) × (legs_of ls j ≡ legs_of ls from ++ (x ∷ []))))
+
+    after : (x : Leg) (f : ℕ) → ((ts : List (List Leg)) → legs_by l.way ts ≡ get_or ts f [] ++ (x ∷ [])) → f < j → ◌≡◌ {A = Option (SheetLeg × ℕ)} (Some (spelled row x, f)) (Some (leg, from)) → After
+    after x f more b s =
+        let both : ◌≡◌ {A = SheetLeg × ℕ} (spelled row x, f) (leg, from) = cc in
+        let i = ap (λ p. p.1) both in
+        (subst (λ (n : ℕ). n < j) i b, (x, (sym (ap (λ p. p.0) both), legs_at ∙ more (traces (take j ls)) ∙ ap (λ xs. xs ++ (x ∷ [])) (legs_before f b) ∙ ap (λ (n : ℕ). legs_of ls n ++ (x ∷ [])) i)))
+
+    by_way : (w : Way) → l.way ≡ w → Earlier j w → last_leg row w ≡ Some (leg, from) → After
+    by_way Origin is b s = absurd (let z : ◌≡◌ {A = ℕ} 0 1 = cc in omega arith)
+    by_way (Walked path f) is b s = after (walk path) f (λ ts. ap (λ x. legs_by x ts) is) b s
+    by_way (Rode first last f) is b s = after (ride first last) f (λ ts. ap (λ x. legs_by x ts) is) b s
+
+    pub leg_after : Backward ls → last_leg row l.way ≡ Some (leg, from) → After
+    leg_after back s = by_way l.way (λ i. l.way) (comes_from ls j l back h e) s
+
+-- there is room for the last leg behind those before it
+pub leg_room : (before all : List Leg) (x : Leg) (at room : ℕ) → all ≡ before ++ (x ∷ []) → at + length all ≤ room → at + length before + 1 ≤ room
+leg_room before all x at room is r = omega (arith, ap length is, length-append before (x ∷ []))
 
 -- one leg more is written behind those to the label before
 module _ (row at end : ℕ) (before all : List Leg) (x : Leg) (old mid : List SheetLeg) (is : all ≡ before ++ (x ∷ [])) (e : end ≡ at + length before) (was : mid ≡ pasted at (map (spelled row) before) old) (room : at + length all ≤ length old) where
@@ -63,17 +87,3 @@ module _ (row at end : ℕ) (before all : List Leg) (x : Leg) (old mid : List Sh
   leg_written h =
       pasted_more at end (map (spelled row) before) (spelled row x ∷ []) old mid (set mid end (spelled row x)) (e ∙ ap (λ (n : ℕ). at + n) (sym (length-map before (spelled row)))) was (pasted_one end (spelled row x) mid h) (omega (arith, longer))
       ∙ ap (λ l. pasted at l old) (sym (ap (map (spelled row)) is ∙ map-append (spelled row) before (x ∷ [])))
-
--- the label that a way comes from, and the legs to it
-module _ {S : Type 0} (ls : List (Label S)) (j : ℕ) (l : Label S) (back : Backward ls) (h : j < length ls) (e : l ≡ get_or ls j l) where
-  pub walked_from : (path from : ℕ) → l.way ≡ Walked path from → from < j
-  walked_from path from w = subst (Earlier j) w (comes_from ls j l back h e)
-
-  pub rode_from : (first last from : ℕ) → l.way ≡ Rode first last from → from < j
-  rode_from first last from w = subst (Earlier j) w (comes_from ls j l back h e)
-
-  pub walked_room : (path from at room : ℕ) → l.way ≡ Walked path from → at + length (legs_of ls j) ≤ room → at + length (legs_of ls from) + 1 ≤ room
-  walked_room path from at room w r = omega (arith, ap length (legs_walked ls j l h e path from w (walked_from path from w)), length-append (legs_of ls from) (walk path ∷ []))
-
-  pub rode_room : (first last from at room : ℕ) → l.way ≡ Rode first last from → at + length (legs_of ls j) ≤ room → at + length (legs_of ls from) + 1 ≤ room
-  rode_room first last from at room w r = omega (arith, ap length (legs_rode ls j l h e first last from w (rode_from first last from w)), length-append (legs_of ls from) (ride first last ∷ []))

@@ -1,16 +1,13 @@
 -- The best offers, picked one by one: prices fall, so that no number of them is too small to begin with.
-use Rattle.std.proofs.Common.{◌≡◌, ℕ, zero, suc, ◌+◌, ◌<◌, ◌≤◌, ltb, List, [], ◌∷◌, ◌++◌, length, take, drop, set, Some, None, Option, sym, refl, ap, ◌∙◌, subst, inl, inr, add-one, arith, length-append, length-drop, length-take}
-use lib.Seq.{take-append-le}
-use Rattle.std.proofs.lemmas.List.{take_all}
+use Rattle.std.proofs.Common.{◌≡◌, ℕ, zero, suc, ◌+◌, ◌<◌, ◌≤◌, List, [], ◌∷◌, ◌++◌, length, take, drop, Some, None, Option, sym, refl, ap, ◌∙◌, subst, inl, inr, add-one, arith, length-append, length-take}
+use Rattle.std.specs.Prelude.{nat_lt, if◌then◌else◌}
+use Rattle.std.proofs.lemmas.List.{take_all, take-append-le}
 use Rattle.std.proofs.lemmas.Bool.{cond-true, cond-false, cases_lt, lt-ltb, le-ltb}
 use Rattle.journeys.specs.declared.best_offer.BestOffer.{BestOffer}
 use Rattle.journeys.specs.declared.label.Label.{Label}
 use Rattle.journeys.specs.Fare.{FareModel}
-use Rattle.journeys.specs.Runs.{overlay}
 use Rattle.journeys.specs.Selection.{pick, picks, and_cheaper, price_bound, best_offers}
 use Rattle.journeys.proofs.Best.{If, OfStore, pick_in}
-use Rattle.scan.proofs.Loops.{overlay_next, overlay_overlay, take_overlay}
-use Rattle.planner.specs.Selecting.{put_at}
 
 module _ {S : Type 0} (f : FareModel S) (dest : ℕ) (ls : List (Label S)) where
   pub pick_below : (bound : ℕ) (r : BestOffer) → pick f dest bound ls ≡ Some r → r.price < bound
@@ -79,59 +76,48 @@ module _ {A : Type 0} where
   drop_nothing (y ∷ xs) zero e = absurd (let z : ◌≡◌ {A = ℕ} 0 1 = cc in omega arith)
   drop_nothing (y ∷ xs) (suc n) e = omega (arith, drop_nothing xs n e)
 
-  -- one more of the list is written, if there is room
-  overlay_length : (xs old : List A) → length xs ≤ length old → length (overlay xs old) ≡ length old
-  overlay_length xs old h = simp (length-append, length-drop) (omega arith)
-
-  put_next : (xs old : List A) (x : A) → put_at (overlay (take (length old) xs) old) (length xs) x ≡ overlay (take (length old) (xs ++ (x ∷ []))) old
-  put_next xs old x = elim (cases_lt (length xs) (length old)) [
+  -- one more is taken, if there is room
+  pushed : (room : ℕ) (xs : List A) (x : A) → (if nat_lt (length (take room xs)) room then take room xs ++ x ∷ [] else take room xs) ≡ take room (xs ++ x ∷ [])
+  pushed room xs x = elim (cases_lt (length xs) room) [
     | inl h ↦ (
-        let e : take (length old) xs ≡ xs = take_all (length old) xs (omega arith) in
-        let n : length (overlay xs old) ≡ length old = overlay_length xs old (omega arith) in
-        let w : take (length old) (xs ++ (x ∷ [])) ≡ xs ++ (x ∷ []) = take_all (length old) (xs ++ (x ∷ [])) (simp length-append (omega arith)) in
-        let m : length xs ≤ length (xs ++ (x ∷ [])) = simp length-append (omega arith) in
-        ap (λ l. put_at (overlay l old) (length xs) x) e
-        ∙ cond-true (ltb (length xs) (length (overlay xs old))) (set (overlay xs old) (length xs) x) (overlay xs old) (lt-ltb _ _ (omega arith))
-        ∙ overlay_next (overlay xs old) (length xs) x (omega arith)
-        ∙ ap (λ l. overlay (l ++ (x ∷ [])) (overlay xs old)) (take_overlay xs old (length xs) refl)
-        ∙ overlay_overlay xs (xs ++ (x ∷ [])) old m
-        ∙ ap (λ l. overlay l old) (sym w))
+        let e : take room xs ≡ xs = take_all room xs (omega arith) in
+        ap (λ l. if nat_lt (length l) room then l ++ x ∷ [] else l) e ∙ cond-true (nat_lt (length xs) room) _ _ (lt-ltb _ _ h)
+        ∙ sym (take_all room (xs ++ x ∷ []) (omega (arith, length-append xs (x ∷ [])))))
     | inr h ↦ (
-        let few : length (take (length old) xs) ≡ length old = omega (arith, length-take (length old) xs) in
-        let n : length (overlay (take (length old) xs) old) ≡ length old = overlay_length (take (length old) xs) old (omega arith) in
-        cond-false (ltb (length xs) (length (overlay (take (length old) xs) old))) (set (overlay (take (length old) xs) old) (length xs) x) (overlay (take (length old) xs) old) (le-ltb _ _ (omega arith))
-        ∙ ap (λ l. overlay l old) (sym (take-append-le (length old) xs (x ∷ []) h)))
+        cond-false (nat_lt (length (take room xs)) room) _ _ (le-ltb _ _ (omega (arith, length-take room xs)))
+        ∙ sym (take-append-le room xs (x ∷ []) h))
   ]
 
--- The search stands behind the first `count` of the whole list, and what is below the bound is left.
-pub record Selected {A : Type 0} (whole left : List A) (count : ℕ) (old new : List A) : Type 0 where
+-- The search stands behind the first `count` of the whole list, and what is below the bound is left; the first so many are taken.
+pub record Selected {A : Type 0} (room : ℕ) (whole left : List A) (count : ℕ) (taken : List A) : Type 0 where
   pub rest : drop count whole ≡ left
   pub inside : count ≤ length whole
-  pub written : new ≡ overlay (take (length old) (take count whole)) old
+  pub taken_are : taken ≡ take room (take count whole)
 
-module _ {A : Type 0} (whole old : List A) where
-  pub selected_none : Selected whole whole 0 old old
-  selected_none = record { rest = refl; inside = omega arith; written = start old }
+module _ {A : Type 0} (room : ℕ) (whole : List A) where
+  pub selected_none : (taken : List A) → taken ≡ [] → Selected room whole whole 0 taken
+  selected_none taken e = record { rest = refl; inside = omega arith; taken_are = e ∙ nothing room }
     where
-      start : (l : List A) → l ≡ overlay (take (length l) (take 0 whole)) l
-      start [] = refl
-      start (x ∷ l) = refl
+      nothing : (n : ℕ) → ◌≡◌ {A = List A} [] (take n (take 0 whole))
+      nothing zero = refl
+      nothing (suc n) = refl
 
-  pub selected_more : (left : List A) (x : A) (more : List A) (count : ℕ) (new next : List A) → Selected whole left count old new → left ≡ x ∷ more → next ≡ put_at new count x → Selected whole more (count + 1) old next
-  selected_more left x more count new next s e p =
+  pub selected_more : (left : List A) (x : A) (more : List A) (count : ℕ) (taken next : List A) → Selected room whole left count taken → left ≡ x ∷ more
+      → next ≡ (if nat_lt (length taken) room then taken ++ x ∷ [] else taken) → Selected room whole more (count + 1) next
+  selected_more left x more count taken next s e p =
       let d : drop count whole ≡ x ∷ more = s.rest ∙ e in
-      let n : length (take count whole) ≡ count = omega (arith, length-take count whole, s.inside) in
       record {
         rest = rw add-one (drop_next whole count x more d);
         inside = omega (arith, next_inside whole count x more d);
-        written = p ∙ ap (λ l. put_at l count x) s.written ∙ ap (λ (k : ℕ). put_at (overlay (take (length old) (take count whole)) old) k x) (sym n)
-            ∙ put_next (take count whole) old x ∙ ap (λ l. overlay (take (length old) l) old) (sym (take_next whole count x more d)) ∙ ap (λ (k : ℕ). overlay (take (length old) (take k whole)) old) (sym (add-one count));
+        taken_are = p ∙ ap (λ l. if nat_lt (length l) room then l ++ x ∷ [] else l) s.taken_are ∙ pushed room (take count whole) x
+            ∙ ap (take room) (sym (take_next whole count x more d) ∙ ap (λ (k : ℕ). take k whole) (sym (add-one count)));
       }
 
-  pub selected_count : (left : List A) (count : ℕ) (new : List A) → Selected whole left count old new → left ≡ [] → count ≡ length whole
-  selected_count left count new s e = let z = drop_nothing whole count (s.rest ∙ e) in omega (arith, s.inside)
+  pub selected_count : (left : List A) (count : ℕ) (taken : List A) → Selected room whole left count taken → left ≡ [] → count ≡ length whole
+  selected_count left count taken s e = let z = drop_nothing whole count (s.rest ∙ e) in omega (arith, s.inside)
 
-  pub selected_all : (left : List A) (count : ℕ) (new : List A) → Selected whole left count old new → left ≡ [] → new ≡ overlay (take (length old) whole) old
-  selected_all left count new s e =
+  pub selected_all : (left : List A) (count : ℕ) (taken : List A) → Selected room whole left count taken → left ≡ [] → count ≤ room → taken ≡ whole
+  selected_all left count taken s e few =
       let z = drop_nothing whole count (s.rest ∙ e) in
-      s.written ∙ ap (λ l. overlay (take (length old) l) old) (take_all count whole z)
+      let all : take count whole ≡ whole = take_all count whole z in
+      s.taken_are ∙ ap (take room) all ∙ take_all room whole (omega (arith, s.inside))

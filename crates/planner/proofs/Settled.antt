@@ -143,12 +143,16 @@ module _ {S : Type 0} (f : FareModel S) (q : Asked) (stops : List Stop) (paths :
     order = rows_order offers (rows_ordered f q.destination st price_bound price_bound);
   }
 
+  -- what is written comes from what was written before
+  pub written_backward : (labels : List (Label S)) → labels ≡ st → Backward labels
+  written_backward labels e = subst Backward (sym e) backward
+
   -- what is found can be written, where it is few
   pub printable : (labels : List (Label S)) (os : List BestOffer) → labels ≡ st → os ≡ best_offers f q.destination labels → length os ≤ 32
-      → (length os ≤ 32) × Good (map row_of os) × Backward labels × Each (λ o. o.label < length labels) os × (225 ≤ bytes) × (length (legs_from labels 0 os) ≤ legs)
+      → (length os ≤ 32) × Good (map row_of os) × Each (λ o. o.label < length labels) os × (225 ≤ bytes) × (length (legs_from labels 0 os) ≤ legs)
   printable labels os e d h =
-      let P : List (Label S) → List BestOffer → Type 0 = λ ls xs. (length xs ≤ 32) × Good (map row_of xs) × Backward ls × Each (λ o. o.label < length ls) xs × (225 ≤ bytes) × (length (legs_from ls 0 xs) ≤ legs) in
+      let P : List (Label S) → List BestOffer → Type 0 = λ ls xs. (length xs ≤ 32) × Good (map row_of xs) × Each (λ o. o.label < length ls) xs × (225 ≤ bytes) × (length (legs_from ls 0 xs) ≤ legs) in
       let x : os ≡ offers = d ∙ ap (best_offers f q.destination) e in
       let n : length offers ≤ 32 = subst (λ l. length l ≤ 32) x h in
-      let p : P st offers = (n, good_rows n, backward, in_store, lim.bytes_room, legs_fit n) in
+      let p : P st offers = (n, good_rows n, in_store, lim.bytes_room, legs_fit n) in
       subst₂ P (sym e) (sym x) p

@@ -7,4 +7,5 @@ pub mod Outcome
 pub mod Promise
 pub mod Acceptance
 pub mod Comparing
+pub mod ShownOffers
 pub mod Lent

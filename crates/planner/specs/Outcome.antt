@@ -106,11 +106,3 @@ pub record Leaves {S : Type 0} (o : Outcome S) (a : Result Answer Refusal) (ls :
   pub aboard : ps ≡ o.left.aboard
   pub sheet : bytes ≡ o.left.sheet
   pub legs : walked ≡ o.left.legs
-
--- the four lists hold what a memory says
-pub record Holds {S : Type 0} (m : Memory S) (ls : List (Label S)) (n : ℕ) (ps : List (Passenger S)) (bytes : List ℕ) (walked : List Leg) : Type 0 where
-  pub labels : ls ≡ m.labels
-  pub written : n ≡ m.written
-  pub aboard : ps ≡ m.aboard
-  pub sheet : bytes ≡ m.sheet
-  pub legs : walked ≡ m.legs

@@ -1,7 +1,11 @@
--- Writing at a place of a list, where there is one.
+-- The best offers that a sheet can hold.
 -- Assumes nothing.
-use Rattle.std.specs.Prelude.{ℕ, cond, List, length, nat_lt, slice_set}
+use Rattle.std.specs.Prelude.{cond, List, length, Ok, Err, Result, nat_lt}
+use Rattle.journeys.specs.declared.best_offer.BestOffer.{BestOffer}
+use Rattle.sheet.specs.Rows.{most_rows}
+use Rattle.planner.specs.declared.refusal.Refusal.{Refusal}
+use Rattle.planner.specs.declared.refusal.Refusal.TheVariants.{ManyOffers}
 
--- a list with x at a place; a place past the end is none
-abbrev pub put_at : {A : Type 0} → List A → ℕ → A → List A
-put_at xs place x = cond (nat_lt place (length xs)) (slice_set xs place x) xs
+-- at most 32 offers are taken, as they are
+abbrev pub selected : List BestOffer → Result (List BestOffer) Refusal
+selected offers = cond (nat_lt most_rows (length offers)) (Err (ManyOffers (length offers))) (Ok offers)

@@ -1,5 +1,5 @@
 // How much of each list an answered question has written.
-#[derive(Clone, Copy)]
+#[derive(Clone, Copy, Debug, PartialEq, Eq)]
 pub struct Answer {
     pub rows: usize,
     pub labels: usize,

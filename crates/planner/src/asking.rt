@@ -1,47 +1,43 @@
-ghost use Rattle.std.specs.Prelude.{◌≡◌, ◌<◌, ◌≤◌, true, map, length, None};
-ghost use Rattle.timetable.specs.Rule.{keeps};
+ghost use Rattle.std.specs.Prelude.{◌≡◌, ◌<◌, ◌≤◌, map, length, None};
+ghost use Rattle.std.specs.Result.{result_err};
+ghost use Rattle.short_list.specs.Items.{items};
 ghost use Rattle.journeys.specs.Lists.{Each};
 ghost use Rattle.journeys.specs.Scan.{scan_for};
 ghost use Rattle.sheet.specs.Format.{encode};
 ghost use Rattle.sheet.specs.Outcome.{laid};
 ghost use Rattle.sheet.specs.Rows.{Good};
 ghost use Rattle.planner.specs.Handout.{row_of, legs_from};
+ghost use Rattle.planner.specs.Lent.{memory_of, Ends, SameLists};
 ghost use Rattle.planner.specs.Limits.{fault_of};
-ghost use Rattle.planner.specs.Outcome.{Leaves, scanned, refusal_of_scan};
+ghost use Rattle.planner.specs.Outcome.{scanned, refusal_of_scan};
 ghost use Rattle.planner.specs.Tracing.{Backward};
 
 use crate::answer::Answer;
-use crate::handout::{rows_of, trace_all};
-use crate::limits::{network_fault, question_fault, room_fault};
+use crate::handout::rows_of;
+use crate::lent::Lent;
+use crate::limits::{check_network, check_question, check_room};
 use crate::printout::Printout;
 use crate::refusal::Refusal;
 use crate::selection::select;
-use journeys::{BestOffer, Fare, Footpath, Full, Label, Passenger, Question, Stop};
-use scan::LabelStore;
+use crate::tracing::Traces;
+use journeys::{BestOffer, Fare, Full, Label, Network, Question};
 use sheet::{MOST_ROWS, write};
+use short_list::ShortList;
 use timetable::Timetable;
 
-// Why a question is refused before it is scanned, if it is.
-pub(crate) fn find_fault<T: Timetable>(
+// Whether a question may be scanned, or why it is refused before.
+pub(crate) fn check<T: Timetable>(
     timetable: &T,
-    stops: &[Stop],
-    paths: &[Footpath],
+    network: &Network,
     question: &Question,
-    bytes: usize,
-    legs: usize,
-) -> Option<Refusal>
-    ensures { result ≡ fault_of question.now stops.now paths.now (T.Timetable.hops timetable.now) bytes legs }
+    out: &Printout,
+) -> Result<(), Refusal>
+    ensures { result_err result ≡ fault_of question.now network.now.stops.now network.now.paths.now (T.Timetable.hops timetable.now) (length out.now.sheet.now) (length out.now.legs.now) }
 {
-    if let Some(field) = question_fault(question, stops.len(), timetable.count()) {
-        return Some(Refusal::Question(field));
-    }
-    if let Some(refusal) = network_fault(timetable, stops, paths) {
-        return Some(refusal);
-    }
-    if let Some(output) = room_fault(bytes, legs) {
-        return Some(Refusal::ShortOutput(output));
-    }
-    None
+    check_question(question, network.stops.len(), timetable.count())?;
+    check_network(timetable, network)?;
+    check_room(out.sheet.len(), out.legs.len())?;
+    Ok(())
 }
 
 // The refusal of a scan that a full list has ended.
@@ -55,25 +51,26 @@ fn scan_refusal(full: Full, room: usize) -> Refusal
 }
 
 // Writes the rows and the legs of the best offers.
-fn print_offers<S: Copy>(labels: &[Label<S>], offers: &[BestOffer], out: &mut Printout) -> Answer
-    requires few { length offers.now ≤ 32 }
-    requires good { Good (map row_of offers.now) }
-    requires backward { Backward labels.now }
-    requires each { Each (λ o. o.label < length labels.now) offers.now }
+fn print_offers<S: Copy>(
+    traces: &Traces<S>,
+    offers: &ShortList<BestOffer, MOST_ROWS>,
+    out: &mut Printout,
+) -> Answer
+    requires good { Good (map row_of (items offers.now)) }
+    requires each { Each (λ o. o.label < length traces.now.labels.now) (items offers.now) }
     requires sheet_fits { 225 ≤ length out.old.sheet.now }
-    requires legs_fit { length (legs_from labels.now 0 offers.now) ≤ length out.old.legs.now }
-    ensures answer { result ≡ record { rows = length offers.now; labels = length labels.now; bytes = length (encode (map row_of offers.now)); legs = length (legs_from labels.now 0 offers.now) } }
-    ensures sheet { out.new.sheet.now ≡ laid (encode (map row_of offers.now)) out.old.sheet.now }
-    ensures legs { out.new.legs.now ≡ laid (legs_from labels.now 0 offers.now) out.old.legs.now }
+    requires legs_fit { length (legs_from traces.now.labels.now 0 (items offers.now)) ≤ length out.old.legs.now }
+    ensures answer { result ≡ record { rows = length (items offers.now); labels = length traces.now.labels.now; bytes = length (encode (map row_of (items offers.now))); legs = length (legs_from traces.now.labels.now 0 (items offers.now)) } }
+    ensures sheet { out.new.sheet.now ≡ laid (encode (map row_of (items offers.now))) out.old.sheet.now }
+    ensures same_sheet { out.new.sheet.ghost_name ≡ out.old.sheet.ghost_name }
+    ensures same_legs { out.new.legs.ghost_name ≡ out.old.legs.ghost_name }
+    ensures legs { out.new.legs.now ≡ laid (legs_from traces.now.labels.now 0 (items offers.now)) out.old.legs.now }
 {
-    let rows = rows_of(offers);
-    let Ok(bytes) = write(&rows[0..offers.len()], out.sheet) else {
-        unreachable()
-    };
-    let legs = trace_all(labels, offers, out.legs);
+    let bytes = write(rows_of(offers).as_slice(), out.sheet).unwrap();
+    let legs = traces.trace_all(offers.as_slice(), out.legs);
     Answer {
         rows: offers.len(),
-        labels: labels.len(),
+        labels: traces.labels.len(),
         bytes,
         legs,
     }
@@ -83,27 +80,21 @@ fn print_offers<S: Copy>(labels: &[Label<S>], offers: &[BestOffer], out: &mut Pr
 pub(crate) fn answer<T: Timetable, F: Fare>(
     timetable: &T,
     fare: &F,
-    stops: &[Stop],
-    paths: &[Footpath],
+    network: &Network,
     question: &Question,
-    store: &mut LabelStore<F::State>,
-    aboard: &mut [Passenger<F::State>],
-    out: &mut Printout,
+    lent: &mut Lent<F::State>,
 ) -> Result<Answer, Refusal>
-    requires { fault_of question.now stops.now paths.now (T.Timetable.hops timetable.now) (length out.old.sheet.now) (length out.old.legs.now) ≡ None }
-    ensures { Leaves (scanned (F.Fare.model fare.now) question.now.destination (record { labels = store.old.labels.now; written = store.old.used; aboard = aboard.old; sheet = out.old.sheet.now; legs = out.old.legs.now }) (scan_for (F.Fare.model fare.now) (T.Timetable.hops timetable.now) paths.now question.now store.old.labels.now aboard.old)) result store.new.labels.now store.new.used aboard.new out.new.sheet.now out.new.legs.now }
+    requires { fault_of question.now network.now.stops.now network.now.paths.now (T.Timetable.hops timetable.now) (length lent.old.out.sheet.now) (length lent.old.out.legs.now) ≡ None }
+    ensures outcome { Ends (scanned (F.Fare.model fare.now) question.now.destination (memory_of lent.old) (scan_for (F.Fare.model fare.now) (T.Timetable.hops timetable.now) network.now.paths.now question.now lent.old.store.labels.now lent.old.aboard.now)) result (memory_of lent.new) }
+    ensures same_lists { SameLists lent.old lent.new }
 {
-    if let Err(full) = store.scan(timetable, fare, paths, aboard, question) {
-        return Err(scan_refusal(full, store.room()));
-    }
-    let mut offers = [BestOffer {
-        arrival: 0,
-        price: 0,
-        label: 0,
-    }; MOST_ROWS];
-    let count = select(fare, store.written(), question.destination, &mut offers);
-    if count > MOST_ROWS {
-        return Err(Refusal::ManyOffers(count));
-    }
-    Ok(print_offers(store.written(), &offers[0..count], out))
+    let room = lent.store.room();
+    lent.store
+        .scan(timetable, fare, network.paths, lent.aboard, question)
+        .map_err(|full| scan_refusal(full, room))?;
+    let offers = select(fare, lent.store.written(), question.destination)?;
+    let traces = Traces {
+        labels: lent.store.written(),
+    };
+    Ok(print_offers(&traces, &offers, &mut lent.out))
 }

@@ -1,6 +1,7 @@
-ghost use Rattle.std.specs.Prelude.{◌≡◌, length};
+ghost use Rattle.std.specs.Prelude.{◌≡◌, ℕ, Bool, cond, length, nat_lt, Some};
+ghost use Rattle.std.specs.Result.{result_err};
 ghost use Rattle.timetable.specs.Table.{most_hops};
-ghost use Rattle.planner.specs.Limits.{fault_of_question, stop_within, path_within, hop_within, first_bad, fault_of_stops, fault_of_paths, hops_fault, fault_of_network, fault_of_room};
+ghost use Rattle.planner.specs.Limits.{fault_of_question, stop_within, path_within, hop_within, first_bad, hops_fault, fault_of_network, fault_of_room};
 
 use crate::refusal::{Field, NetworkList, OutputList, Refusal};
 use journeys::{Footpath, Network, Question, Stop};
@@ -20,147 +21,133 @@ const LONGEST_WALK: u32 = 3_600;
 const MOST_RIDES: u32 = 8;
 
 // 32 rows with at most 17 legs each.
-const MOST_LEGS: usize = 544;
+pub const MOST_LEGS: usize = 544;
 
-// The first field of a question that cannot be asked, where there are so many stops and hops.
-pub(crate) fn question_fault(question: &Question, stops: usize, count: u32) -> Option<Field>
-    ensures { result ≡ fault_of_question question.now stops count }
+// Whether a question can be asked, where there are so many stops and hops; else its first field that
+// cannot.
+pub(crate) fn check_question(question: &Question, stops: usize, count: u32) -> Result<(), Field>
+    ensures { result_err result ≡ fault_of_question question.now stops count }
 {
     if question.origin as usize >= stops {
-        return Some(Field::Origin);
+        return Err(Field::Origin);
     }
     if question.destination as usize >= stops {
-        return Some(Field::Destination);
+        return Err(Field::Destination);
     }
     if question.departure > DAY_END {
-        return Some(Field::Departure);
+        return Err(Field::Departure);
     }
     if question.rides < 1 || question.rides > MOST_RIDES {
-        return Some(Field::Rides);
+        return Err(Field::Rides);
     }
     if count >= MOST_HOPS {
-        return Some(Field::Count);
+        return Err(Field::Count);
     }
-    None
+    Ok(())
 }
 
-fn is_stop_within(stop: &Stop) -> bool
-    ensures { result ≡ stop_within stop.now }
-{
-    (stop.zone <= TOP_ZONE) & (stop.class <= TOP_CLASS)
+// What is within limits, where there are so many stops.
+trait Limited {
+    ghost within: { ℕ → Self → Bool };
+
+    fn is_within(&self, stops: usize) -> bool
+        ensures { result ≡ within stops self.now };
+}
+
+impl Limited for Stop {
+    ghost within = { λ stops s. stop_within s };
+
+    fn is_within(&self, stops: usize) -> bool {
+        self.zone <= TOP_ZONE && self.class <= TOP_CLASS
+    }
 }
 
 // A footpath leads from a stop to another one.
-fn is_path_within(stops: usize, path: &Footpath) -> bool
-    ensures { result ≡ path_within stops path.now }
-{
-    ((path.from as usize) < stops)
-        & (((path.to as usize) < stops)
-            & (!(path.from == path.to) & ((1 <= path.seconds) & (path.seconds <= LONGEST_WALK))))
+impl Limited for Footpath {
+    ghost within = { path_within };
+
+    fn is_within(&self, stops: usize) -> bool {
+        (self.from as usize) < stops
+            && (self.to as usize) < stops
+            && self.from != self.to
+            && (1..=LONGEST_WALK).contains(&self.seconds)
+    }
 }
 
 // A hop that does not run may name any stops.
-fn is_hop_within(stops: usize, hop: &Hop) -> bool
-    ensures { result ≡ hop_within stops hop.now }
-{
-    !hop.runs | (((hop.from as usize) < stops) & ((hop.to as usize) < stops))
+impl Limited for Hop {
+    ghost within = { hop_within };
+
+    fn is_within(&self, stops: usize) -> bool {
+        !self.runs || ((self.from as usize) < stops && (self.to as usize) < stops)
+    }
 }
 
-fn first_bad_stop(stops: &[Stop]) -> Option<usize>
-    ensures { result ≡ first_bad stop_within 0 stops.now }
+// The length of a list that is too long, else its first place outside limits.
+fn list_fault<X: Limited>(list: &[X], most: usize, stops: usize) -> Option<usize>
+    ensures { result ≡ cond (nat_lt most (length list.now)) (Some (length list.now)) (first_bad (X.within stops) 0 list.now) }
 {
-    for place in 0..stops.len() {
-        if !is_stop_within(&stops[place]) {
+    if list.len() > most {
+        return Some(list.len());
+    }
+    for (place, item) in list.iter().enumerate() {
+        if !item.is_within(stops) {
             return Some(place);
         }
     }
     None
 }
 
-fn first_bad_path(stops: usize, paths: &[Footpath]) -> Option<usize>
-    ensures { result ≡ first_bad (path_within stops) 0 paths.now }
-{
-    for place in 0..paths.len() {
-        if !is_path_within(stops, &paths[place]) {
-            return Some(place);
-        }
-    }
-    None
-}
-
-// Only the hops that a timetable answers are tested.
+// A timetable answers hops by place, and only those that it answers are tested.
 fn first_bad_hop<T: Timetable>(timetable: &T, stops: usize) -> Option<usize>
     ensures { result ≡ hops_fault stops (T.Timetable.hops timetable.now) }
 {
     let count = timetable.count();
+    // by place, since a timetable is no list: it answers one hop at a time
     for place in 0..count {
         let Some(hop) = timetable.hop(place) else {
             continue;
         };
-        if !is_hop_within(stops, &hop) {
+        if !hop.is_within(stops) {
             return Some(place as usize);
         }
     }
     None
 }
 
-// The length of a list that is too long, else its first place outside limits.
-fn stops_fault(stops: &[Stop]) -> Option<usize>
-    ensures { result ≡ fault_of_stops stops.now }
+// Whether the network is within limits; else its first list that is not, with the place.
+pub(crate) fn check_network<T: Timetable>(timetable: &T, network: &Network) -> Result<(), Refusal>
+    ensures { result_err result ≡ fault_of_network network.now.stops.now network.now.paths.now (T.Timetable.hops timetable.now) }
 {
-    if stops.len() > MOST_STOPS {
-        return Some(stops.len());
+    let stops = network.stops.len();
+    // what is found is a place, and becomes a refusal only here
+    if let Some(place) = list_fault(network.stops, MOST_STOPS, stops) {
+        return Err(outside(NetworkList::Stops, place));
     }
-    first_bad_stop(stops)
+    if let Some(place) = list_fault(network.paths, MOST_PATHS, stops) {
+        return Err(outside(NetworkList::Footpaths, place));
+    }
+    if let Some(place) = first_bad_hop(timetable, stops) {
+        return Err(outside(NetworkList::Hops, place));
+    }
+    Ok(())
 }
 
-fn paths_fault(stops: usize, paths: &[Footpath]) -> Option<usize>
-    ensures { result ≡ fault_of_paths stops paths.now }
+fn outside(list: NetworkList, place: usize) -> Refusal
+    ensures { result ≡ Refusal.Network list place }
 {
-    if paths.len() > MOST_PATHS {
-        return Some(paths.len());
-    }
-    first_bad_path(stops, paths)
+    Refusal::Network { list, place }
 }
 
-// The first list that is outside limits, with the place.
-pub(crate) fn network_fault<T: Timetable>(
-    timetable: &T,
-    stops: &[Stop],
-    paths: &[Footpath],
-) -> Option<Refusal>
-    ensures { result ≡ fault_of_network stops.now paths.now (T.Timetable.hops timetable.now) }
-{
-    if let Some(place) = stops_fault(stops) {
-        return Some(Refusal::Network {
-            list: NetworkList::Stops,
-            place,
-        });
-    }
-    if let Some(place) = paths_fault(stops.len(), paths) {
-        return Some(Refusal::Network {
-            list: NetworkList::Footpaths,
-            place,
-        });
-    }
-    if let Some(place) = first_bad_hop(timetable, stops.len()) {
-        return Some(Refusal::Network {
-            list: NetworkList::Hops,
-            place,
-        });
-    }
-    None
-}
-
-// The first list that is too short for every answer.
-pub(crate) fn room_fault(bytes: usize, legs: usize) -> Option<OutputList>
-    ensures { result ≡ fault_of_room bytes legs }
+// Whether both lists have room for every answer; else the first that has not.
+pub(crate) fn check_room(bytes: usize, legs: usize) -> Result<(), OutputList>
+    ensures { result_err result ≡ fault_of_room bytes legs }
 {
     if bytes < SHEET_BYTES {
-        return Some(OutputList::Sheet);
+        return Err(OutputList::Sheet);
     }
     if legs < MOST_LEGS {
-        return Some(OutputList::Legs);
+        return Err(OutputList::Legs);
     }
-    None
+    Ok(())
 }

@@ -1,10 +1,14 @@
-ghost use Rattle.std.specs.Prelude.{◌≡◌, length, take};
+ghost use Rattle.std.specs.Prelude.{◌≡◌};
+ghost use Rattle.std.specs.Result.{result_map_both};
+ghost use Rattle.short_list.specs.Items.{items};
 ghost use Rattle.journeys.specs.Offers.{fee};
-ghost use Rattle.journeys.specs.Runs.{overlay};
-ghost use Rattle.planner.specs.Selecting.{put_at};
+ghost use Rattle.planner.specs.Selecting.{selected};
 ghost use Rattle.journeys.specs.Selection.{before, first_of, picking_one, pick as pick_among, best_offers};
 
+use crate::refusal::Refusal;
 use journeys::{BestOffer, Fare, Label};
+use sheet::MOST_ROWS;
+use short_list::ShortList;
 
 // One more than the highest price.
 const PRICE_BOUND: u32 = 10_000_000;
@@ -22,8 +26,7 @@ fn fee_of<F: Fare>(fare: &F, label: &Label<F::State>) -> u32
 fn is_before(offer: BestOffer, other: BestOffer) -> bool
     ensures { result ≡ before offer other }
 {
-    (offer.arrival < other.arrival)
-        | ((offer.arrival == other.arrival) & (offer.price < other.price))
+    offer.arrival < other.arrival || (offer.arrival == other.arrival && offer.price < other.price)
 }
 
 // The one found first stays where the two are alike.
@@ -31,14 +34,8 @@ fn first_of(offer: BestOffer, found: Option<BestOffer>) -> Option<BestOffer>
     ensures { result ≡ first_of offer found }
 {
     match found {
-        None => Some(offer),
-        Some(other) => {
-            if is_before(offer, other) {
-                Some(offer)
-            } else {
-                Some(other)
-            }
-        }
+        Some(other) if !is_before(offer, other) => found,
+        _ => Some(offer),
     }
 }
 
@@ -54,7 +51,7 @@ fn pick_one<F: Fare>(
     ensures { result ≡ picking_one (F.Fare.model fare.now) destination bound place label.now found }
 {
     let price = fee_of(fare, label);
-    if (label.stop == destination) & (price < bound) {
+    if label.stop == destination && price < bound {
         return first_of(
             BestOffer {
                 arrival: label.time,
@@ -77,37 +74,35 @@ fn pick<F: Fare>(
     ensures { result ≡ pick_among (F.Fare.model fare.now) destination bound labels.now }
 {
     let mut found = None;
-    for place in 0..labels.len() {
-        found = pick_one(fare, destination, bound, place, &labels[place], found);
+    for (place, label) in labels.iter().enumerate() {
+        found = pick_one(fare, destination, bound, place, label, found);
     }
     found
 }
 
-// Writes an offer at a place, if there is one.
-fn put(offers: &mut [BestOffer], place: usize, offer: BestOffer)
-    ensures { offers.new ≡ put_at offers.old place offer }
-{
-    if place < offers.len() {
-        offers[place] = offer;
-    }
-}
-
-// Writes the best offers, as many as there is room for, and answers how many there are.
+// The best offers, where a sheet can hold as many as there are.
 pub(crate) fn select<F: Fare>(
     fare: &F,
     labels: &[Label<F::State>],
     destination: u32,
-    offers: &mut [BestOffer],
-) -> usize
-    ensures count { result ≡ length (best_offers (F.Fare.model fare.now) destination labels.now) }
-    ensures written { offers.new ≡ overlay (take (length offers.old) (best_offers (F.Fare.model fare.now) destination labels.now)) offers.old }
+) -> Result<ShortList<BestOffer, MOST_ROWS>, Refusal>
+    ensures { result_map_both items (λ e. e) result ≡ selected (best_offers (F.Fare.model fare.now) destination labels.now) }
 {
+    let mut offers = ShortList::empty(BestOffer {
+        arrival: 0,
+        price: 0,
+        label: 0,
+    });
     let mut bound = PRICE_BOUND;
+    // counted, since there may be more than the list has places for, and there is no heap
     let mut count = 0;
     while let Some(offer) = pick(fare, labels, destination, bound) {
-        put(offers, count, offer);
+        offers.push(offer);
         count += 1;
         bound = offer.price;
     }
-    count
+    if count > MOST_ROWS {
+        return Err(Refusal::ManyOffers(count));
+    }
+    Ok(offers)
 }

@@ -1,46 +1,50 @@
 ghost use Rattle.std.specs.Prelude.{◌≡◌, ◌+◌, ◌<◌, ◌≤◌, map, length};
 ghost use Rattle.journeys.specs.Traces.{legs_of, spelled};
 ghost use Rattle.sheet.specs.Outcome.{pasted};
-ghost use Rattle.planner.specs.Tracing.{Backward};
+ghost use Rattle.planner.specs.Tracing.{Backward, last_leg, backward_prop};
 
 use journeys::{Label, Leg, LegKind, Way};
 
-// Writes the legs from the origin to the label at a place, and answers where they end.
-pub(crate) fn trace<S: Copy>(
-    labels: &[Label<S>],
-    place: usize,
-    row: u8,
-    legs: &mut [Leg],
-    at: usize,
-) -> usize
-    requires place_in_bounds { place < length labels.now }
-    requires backward { Backward labels.now }
-    requires legs_fit { at + length (legs_of labels.now place) ≤ length legs.old }
-    ensures end { result ≡ at + length (legs_of labels.now place) }
-    ensures legs { legs.new ≡ pasted at (map (spelled row) (legs_of labels.now place)) legs.old }
+// The leg that ends at a label, and the place of the label it begins at.
+fn last_leg(way: Way, row: u8) -> Option<(Leg, usize)>
+    ensures { result ≡ last_leg row way }
 {
-    let label = labels[place];
-    match label.way {
-        Way::Origin => at,
-        Way::Walked { path, from } => {
-            let end = trace(labels, from, row, legs, at);
-            legs[end] = Leg {
-                row,
-                kind: LegKind::Walk,
-                first: path,
-                last: path,
-            };
-            end + 1
-        }
-        Way::Rode { first, last, from } => {
-            let end = trace(labels, from, row, legs, at);
-            legs[end] = Leg {
-                row,
-                kind: LegKind::Ride,
-                first,
-                last,
-            };
-            end + 1
-        }
+    let (kind, first, last, from) = match way {
+        Way::Origin => return None,
+        Way::Walked { path, from } => (LegKind::Walk, path, path, from),
+        Way::Rode { first, last, from } => (LegKind::Ride, first, last, from),
+    };
+    Some((
+        Leg {
+            row,
+            kind,
+            first,
+            last,
+        },
+        from,
+    ))
+}
+
+// Labels of which each comes from an earlier one.
+#[derive(Drop)]
+pub(crate) struct Traces<'a, S> {
+    pub(crate) labels: &'a [Label<S>],
+    ghost backward: { Backward labels.now } by { backward_prop labels.now },
+}
+
+impl<'a, S: Copy> Traces<'a, S> {
+    // Writes the legs from the origin to the label at a place, and answers where they end.
+    pub(crate) fn trace(&self, place: usize, row: u8, legs: &mut [Leg], at: usize) -> usize
+        requires place_in_bounds { place < length self.now.labels.now }
+        requires legs_fit { at + length (legs_of self.now.labels.now place) ≤ length legs.old }
+        ensures end { result ≡ at + length (legs_of self.now.labels.now place) }
+        ensures legs { legs.new ≡ pasted at (map (spelled row) (legs_of self.now.labels.now place)) legs.old }
+    {
+        let Some((leg, from)) = last_leg(self.labels[place].way, row) else {
+            return at;
+        };
+        let end = self.trace(from, row, legs, at);
+        legs[end] = leg;
+        end + 1
     }
 }

@@ -40,11 +40,11 @@ fn reads_as_the_two(sheet: &[u8]) -> bool {
 // Each byte in turn becomes every other one: what is read then, if anything is, is other rows.
 #[test]
 fn no_damaged_byte_goes_unseen(rt: HostRuntime) {
-    for place in 0..THEIR_SHEET.len() {
+    for (place, theirs) in THEIR_SHEET.iter().enumerate() {
         for byte in 0..=u8::MAX {
             let mut sheet = THEIR_SHEET;
             sheet[place] = byte;
-            assert_eq!(rt; reads_as_the_two(&sheet), byte == THEIR_SHEET[place]);
+            assert_eq!(rt; reads_as_the_two(&sheet), byte == *theirs);
         }
     }
 }
@@ -67,8 +67,8 @@ fn fill(rows: &mut [Row]) {
         arrival: 0x01_01_01,
         price: 0x01_01_ff,
     };
-    for k in 0..rows.len() {
-        rows[k] = row;
+    for place in rows {
+        *place = row;
         row.arrival = row.arrival.saturating_add(1);
         row.price = row.price.saturating_sub(1);
     }

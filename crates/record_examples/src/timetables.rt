@@ -29,9 +29,7 @@ const NEXT: Hop = Hop {
 
 // Where the two hops break the rule, if they do.
 fn broken(first: Hop, next: Hop) -> Option<usize> {
-    let hops = [first, next];
-    let mut list = HopList::empty();
-    match list.open(&hops) {
+    match HopList::over(&[first, next]) {
         Err(Refusal::BrokenRule(place)) => Some(place),
         _ => None,
     }
@@ -117,21 +115,6 @@ fn each_clause_broken_alone(rt: HostRuntime) {
     );
 }
 
-// Whether two hops answered at one place are alike.
-fn alike(a: Option<Hop>, b: Option<Hop>) -> bool {
-    match (a, b) {
-        (Some(a), Some(b)) => {
-            (a.trip == b.trip)
-                & (a.from == b.from)
-                & (a.to == b.to)
-                & (a.departure == b.departure)
-                & (a.arrival == b.arrival)
-        }
-        (None, None) => true,
-        _ => false,
-    }
-}
-
 fn at(hop: Hop, trip: u32, departure: u32, arrival: u32) -> Hop {
     Hop {
         trip,
@@ -150,9 +133,7 @@ fn a_line_and_its_list_answer_alike(rt: HostRuntime) -> Result<(), Fail> {
             ..NEXT
         },
     ];
-    let Ok(line) = IntervalLine::open(&pattern, 600, 2) else {
-        return Err(Fail::new("refused"));
-    };
+    let line = IntervalLine::open(&pattern, 600, 2)?;
     let hops = [
         pattern[0],
         pattern[1],
@@ -164,7 +145,7 @@ fn a_line_and_its_list_answer_alike(rt: HostRuntime) -> Result<(), Fail> {
     assert_eq!(rt; line.count(), list.count());
     assert_eq!(rt; line.trips(), list.trips());
     for place in 0..5 {
-        assert!(rt; alike(line.hop(place), list.hop(place)));
+        assert_eq!(rt; line.hop(place), list.hop(place));
     }
     assert!(rt; IntervalLine::open(&[FIRST, NEXT], 600, 2).is_err());
     Ok(())

@@ -1,3 +1,3 @@
-pub mod Scans
+pub mod Below
 pub mod MaskRows
 pub mod LimitScans

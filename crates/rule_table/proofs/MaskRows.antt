@@ -1,9 +1,9 @@
 -- The tests as they are run, over masks, give the rows of the tests as they are meant.
-use Rattle.std.proofs.Common.{◌≡◌, ℕ, zero, suc, ◌^◌, ◌<◌, Bool, true, false, cond, not, ◌&&◌, ◌||◌, eqb, ltb, leb, List, get_or, Decides, sym, refl, ap, ◌∙◌, subst, ap₂, ⊎_elim, arith}
+use Rattle.std.proofs.Common.{◌≡◌, ℕ, zero, suc, ◌+◌, ◌^◌, ◌<◌, Bool, true, false, cond, not, ◌&&◌, ◌||◌, eqb, ltb, leb, List, get_or, Decides, sym, refl, ap, ◌∙◌, subst, ap₂, ⊎_elim, arith}
 use Rattle.std.proofs.lemmas.Bool.{or_cases, or_left, or_right, eqb-true, eq-eqb}
 use Rattle.std.proofs.lemmas.Bool.Decides.{same_from_decides, Decides-and, Decides-eqb}
 use Rattle.rule_table.specs.CoverTests.{each_below, some_rule, reaches_ticket, overtakes, steady, is_free, one_next, is_constant, covers_ticket}
-use Rattle.rule_table.specs.Masks.{mask_of, ticket_listed, MaskRows}
+use Rattle.rule_table.specs.Masks.{mask_of, ticket_listed, MaskRows, MaskRowsFrom}
 use Rattle.rule_table.specs.Masks.{leading_on, reach_step, steady_step, in_line, free_step, constant_step, cover_step}
 use Rattle.rule_table.specs.Rules.{SomeRule, Leads, RulesRise, Reaches}
 use Rattle.rule_table.specs.Rules.Reaches.{stays, goes}
@@ -24,7 +24,7 @@ row_has p mask n is h = ap (λ (x : ℕ). ticket_listed x n) is ∙ has_mask p n
 module _ (rs : List Rule) where
   -- The row of k from the rows above it. A rule of k leads up, so the row of its target is known; k reaches n when they are
   -- the same, or when a rule of k leads to a ticket whose row has n.
-  pub reach_row : RulesRise 32 rs → (masks : List ℕ) (k : ℕ) → ((j : ℕ) → k < j → j < 32 → get_or masks j 0 ≡ mask_of (reaches_ticket rs j) 32)
+  pub reach_row : RulesRise 32 rs → (masks : List ℕ) (k : ℕ) → MaskRowsFrom (k + 1) (reaches_ticket rs) masks
       → mask_of (reach_step masks rs k) 32 ≡ mask_of (reaches_ticket rs k) 32
   reach_row rising masks k above = mask_ext (reach_step masks rs k) (reaches_ticket rs k) 32 (λ n h. same_from_decides _ _ (there n h, back n h) (reach? k n))
     where
@@ -35,7 +35,7 @@ module _ (rs : List Rule) where
       leads? n = decides_rule _ _ (λ r. Decides-and (eqb r.ticket k) (ticket_listed (get_or masks r.target 0) n) (Decides-eqb r.ticket k) (decides_itself (ticket_listed (get_or masks r.target 0) n))) rs
 
       known : (p n : ℕ) → Leads rs k p → n < 32 → ticket_listed (get_or masks p 0) n ≡ reaches_ticket rs p n
-      known p n s h = let u = rising k p s in row_has (reaches_ticket rs p) (get_or masks p 0) n (above p u.0 u.1) h
+      known p n s h = let u = rising k p s in row_has (reaches_ticket rs p) (get_or masks p 0) n (above p (omega (arith, u.0)) u.1) h
 
       there : (n : ℕ) → n < 32 → reach_step masks rs k n ≡ true → Reaches rs k n
       there n h t =

@@ -1,6 +1,7 @@
 -- The finite tests by which a table decides, once and when it opens, which tickets cover which.
 -- Assumes nothing; they are shut (`unfoldable`), since 32 tickets written out are long.
-use Rattle.std.specs.Prelude.{ℕ, zero, suc, Bool, true, false, cond, not, ◌&&◌, ◌||◌, List, [], ◌∷◌, ◌==◌, nat_le, nat_lt}
+use Rattle.std.specs.Prelude.{ℕ, zero, suc, Bool, true, false, cond, not, ◌&&◌, ◌||◌, List, ◌==◌, nat_le, nat_lt}
+use Rattle.std.specs.List.{list_any}
 use Rattle.fares.specs.Readings.{lowest_readings, largest_readings}
 use Rattle.rule_table.specs.Rules.{event_among, ticket_after}
 use Rattle.rule_table.specs.Sizes.{top_tickets, event_count}
@@ -18,8 +19,7 @@ some_below p (suc n) = p n || some_below p n
 
 -- some rule passes
 abbrev pub some_rule : (Rule → Bool) → List Rule → Bool
-some_rule p [] = false
-some_rule p (r ∷ rs) = p r || some_rule p rs
+some_rule = list_any
 
 -- reached by at most so many rules
 unfoldable pub reaches_in : List Rule → ℕ → ℕ → ℕ → Bool

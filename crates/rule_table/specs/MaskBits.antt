@@ -1,9 +1,10 @@
 -- A mask holds the numbers that it is made of.
 use Rattle.std.specs.Prelude.{◌≡◌, ℕ, zero, suc, ◌+◌, ◌-◌, ◌*◌, ◌/◌, ◌%◌, ◌^◌, ◌<◌, ◌≤◌, Bool, true, false, cond, ◌&&◌, ◌⊎◌, ◌==◌, bit_or, nat_eq, refl}
 use Rattle.std.proofs.Common.{inl, inr, sym, ap, ap₂, subst, ◌∙◌, pow-suc, add-one, arith}
-use Rattle.std.proofs.Math.Nat.{add-mul-div_right, div-eq_of_lt}
+use Rattle.std.specs.Int.{bit_at}
 use Rattle.std.specs.Int.Bits.{or_shifted_r}
-use Rattle.std.proofs.lemmas.Nat.{pow_pos, pow-add, one_shl}
+use Rattle.std.proofs.lemmas.Nat.{one_shl}
+use Rattle.std.proofs.lemmas.Nat.Bits.{bit_at_cat_low, bit_at_cat_high, bit_at_above}
 use Rattle.std.proofs.lemmas.Bool.{cond_both, cases_lt, lt-ltb, eq-eqb, ne_eqb}
 use Rattle.rule_table.specs.Masks.{mask_of, ticket_listed}
 
@@ -35,33 +36,25 @@ unfolding mask_of
 mask_ext p q zero h = refl
 mask_ext p q (suc n) h = ap₂ (λ (x : ℕ) (y : Bool). x + cond y (2 ^ n) 0) (mask_ext p q n (λ l i. h l (omega arith))) (h n (omega arith))
 
--- a bit at n, above l, leaves bit l
-below_bit : (a l n : ℕ) → l < n → (a + 2 ^ n) / 2 ^ l % 2 ≡ a / 2 ^ l % 2
-below_bit a l n h =
-    let j : ℕ = n - (l + 1) in
-    let e : n ≡ suc j + l = omega arith in
-    let q : (a + 2 ^ n) / 2 ^ l ≡ a / 2 ^ l + 2 ^ suc j =
-    ap (λ (x : ℕ). (a + x) / 2 ^ l) (ap (λ (x : ℕ). 2 ^ x) e ∙ pow-add 2 (suc j) l) ∙ add-mul-div_right a (2 ^ suc j) (pow_pos l) in
-    omega (arith, q, pow-suc 2 j)
+-- a bit at n leaves those below it, and stands above them
+with_bit : (a n : ℕ) → a + 2 ^ n ≡ 1 * 2 ^ n + a
+with_bit a n = omega arith
 
 pub bit_of : (p : ℕ → Bool) (n l : ℕ) → l < n → mask_of p n / 2 ^ l % 2 ≡ cond (p l) 1 0
 unfolding mask_of
 bit_of p zero l h = absurd (omega arith)
 bit_of p (suc n) l h = pick (cases_lt l n) (bit_of p n l)
   where
-    lower : l < n → (b : Bool) → (mask_of p n + cond b (2 ^ n) 0) / 2 ^ l % 2 ≡ mask_of p n / 2 ^ l % 2
-    lower lt true = below_bit (mask_of p n) l n lt
-    lower lt false = ap (λ (x : ℕ). x / 2 ^ l % 2) (omega arith)
+    lower : l < n → (b : Bool) → bit_at (mask_of p n + cond b (2 ^ n) 0) l ≡ bit_at (mask_of p n) l
+    lower lt true = ap (λ (x : ℕ). bit_at x l) (with_bit (mask_of p n) n) ∙ bit_at_cat_low 1 n (mask_of p n) l lt
+    lower lt false = ap (λ (x : ℕ). bit_at x l) (omega arith)
 
-    top : (b : Bool) → (mask_of p n + cond b (2 ^ n) 0) / 2 ^ n % 2 ≡ cond b 1 0
+    top : (b : Bool) → bit_at (mask_of p n + cond b (2 ^ n) 0) n ≡ cond b 1 0
     top true =
-        let q : (mask_of p n + 2 ^ n) / 2 ^ n ≡ mask_of p n / 2 ^ n + 1 =
-        ap (λ (x : ℕ). (mask_of p n + x) / 2 ^ n) (omega arith) ∙ add-mul-div_right (mask_of p n) 1 (pow_pos n) in
-        omega (arith, q, div-eq_of_lt (mask_lt p n))
-    top false =
-        let z : mask_of p n + 0 ≡ mask_of p n = omega arith in
-        let q : mask_of p n / 2 ^ n % 2 ≡ 0 = omega (arith, div-eq_of_lt (mask_lt p n)) in
-        ap (λ (x : ℕ). x / 2 ^ n % 2) z ∙ q
+        let here : n - n ≡ 0 = omega arith in
+        ap (λ (x : ℕ). bit_at x n) (with_bit (mask_of p n) n) ∙ bit_at_cat_high 1 n (mask_of p n) n (mask_lt p n) (omega arith)
+        ∙ ap (bit_at 1) here
+    top false = ap (λ (x : ℕ). bit_at x n) (omega arith) ∙ bit_at_above (mask_of p n) n n (mask_lt p n) (omega arith)
 
     pick : (l < n) ⊎ (n ≤ l) → (l < n → mask_of p n / 2 ^ l % 2 ≡ cond (p l) 1 0) → (mask_of p n + cond (p n) (2 ^ n) 0) / 2 ^ l % 2 ≡ cond (p l) 1 0
     pick (inl lt) ih = lower lt (p n) ∙ ih lt

@@ -1,6 +1,6 @@
 -- The same tests as they are run: over masks, sets of tickets as the bits of a number, one ticket at a time.
 -- Assumes nothing.
-use Rattle.std.specs.Prelude.{◌≡◌, ℕ, zero, suc, ◌+◌, ◌/◌, ◌%◌, ◌^◌, ◌<◌, Bool, cond, not, ◌&&◌, ◌||◌, List, ◌==◌, nat_le, nat_lt, slice_index}
+use Rattle.std.specs.Prelude.{◌≡◌, ℕ, zero, suc, ◌+◌, ◌/◌, ◌%◌, ◌^◌, ◌<◌, ◌≤◌, Bool, cond, not, ◌&&◌, ◌||◌, List, ◌==◌, nat_le, nat_lt, slice_index}
 use Rattle.rule_table.specs.CoverTests.{each_below, some_rule, overtakes, one_next}
 use Rattle.rule_table.specs.Sizes.{top_tickets, event_count}
 use Rattle.rule_table.specs.declared.rule.Rule.{Rule}
@@ -13,6 +13,10 @@ mask_of p (suc n) = mask_of p n + cond (p n) (2 ^ n) 0
 -- the ticket is a member
 abbrev pub ticket_listed : ℕ → ℕ → Bool
 ticket_listed mask n = nat_lt n top_tickets && mask / 2 ^ n % 2 == 1
+
+-- a mask for each ticket from this one on
+abbrev pub MaskRowsFrom : ℕ → (ℕ → ℕ → Bool) → List ℕ → Type 0
+MaskRowsFrom first p masks = (k : ℕ) → first ≤ k → k < top_tickets → slice_index masks k ≡ mask_of (p k) top_tickets
 
 -- a mask for each ticket
 abbrev pub MaskRows : (ℕ → ℕ → Bool) → List ℕ → Type 0

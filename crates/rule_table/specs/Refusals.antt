@@ -9,6 +9,11 @@ abbrev pub cause : Refusal → ℕ × List ℕ
 cause Rest = (3, 128 ∷ [])
 cause (BadRule place) = (3, place ∷ [])
 
+-- nothing to hold, unless there is a refusal
+abbrev pub unless_refused : Option Refusal → Result (Unit {0}) Refusal
+unless_refused None = Ok tt
+unless_refused (Some e) = Err e
+
 -- the parts that an opened table holds, or the refusal's number and values
 abbrev pub meant : {T P : Type 0} → (T → P) → Result T Refusal → Result P (ℕ × List ℕ)
 meant parts (Ok t) = Ok (parts t)

@@ -1,6 +1,7 @@
 -- The rule table: its limits, why one is refused, how it opens, and what it means.
 -- Assumes nothing; a number that is no ticket of the table costs 0, stays itself and covers none.
-use Rattle.std.specs.Prelude.{ℕ, ◌+◌, Bool, true, cond, ◌&&◌, ltb, leb, List, [], ◌∷◌, length, Some, None, Option, Result, nat_le, nat_lt, slice_index}
+use Rattle.std.specs.Prelude.{ℕ, ◌+◌, Bool, cond, ◌&&◌, ltb, leb, List, [], ◌∷◌, length, Some, None, Option, Result, nat_le, nat_lt, slice_index}
+use Rattle.std.specs.List.{list_all}
 use Rattle.fares.specs.Limits.{top_price}
 use Rattle.fares.specs.Tariffs.{TariffModel}
 use Rattle.rule_table.specs.CoverTests.{covers_ticket}
@@ -13,8 +14,7 @@ use Rattle.rule_table.specs.declared.rule.Rule.{Rule}
 
 -- every number of the list passes
 abbrev pub each_of : (ℕ → Bool) → List ℕ → Bool
-each_of p [] = true
-each_of p (x ∷ xs) = p x && each_of p xs
+each_of = list_all
 
 -- no price is above the highest
 abbrev pub prices_within : List ℕ → Bool

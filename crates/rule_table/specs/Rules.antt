@@ -1,6 +1,6 @@
 -- Rules from ticket to ticket: when one is met, the next ticket, and which tickets a ticket reaches.
 -- Assumes nothing.
-use Rattle.std.specs.Prelude.{◌≡◌, ℕ, ◌/◌, ◌%◌, ◌^◌, ◌<◌, ◌≤◌, max, Bool, true, cond, ◌&&◌, ◌⊎◌, List, [], ◌∷◌, ◌==◌, nat_le, nat_lt}
+use Rattle.std.specs.Prelude.{◌≡◌, ℕ, ◌/◌, ◌%◌, ◌^◌, ◌<◌, ◌≤◌, max, fold, Bool, true, cond, ◌&&◌, ◌⊎◌, List, [], ◌∷◌, ◌==◌, nat_le, nat_lt}
 use Rattle.fares.specs.declared.gauges.Gauges.{Gauges}
 use Rattle.rule_table.specs.Sizes.{event_count}
 use Rattle.rule_table.specs.declared.rule.Rule.{Rule}
@@ -24,8 +24,7 @@ raised_by r k g e held = cond (met r k g e) (max held r.target) held
 
 -- the highest target of a met rule of the ticket, or what is held so far
 abbrev pub next_from : List Rule → ℕ → Gauges → ℕ → ℕ → ℕ
-next_from [] k g e held = held
-next_from (r ∷ rs) k g e held = next_from rs k g e (raised_by r k g e held)
+next_from rs k g e held = fold (λ (h : ℕ) (r : Rule). raised_by r k g e h) held rs
 
 -- the next ticket, which is the ticket itself where no rule is met
 abbrev pub ticket_after : List Rule → ℕ → Gauges → ℕ → ℕ

@@ -6,14 +6,13 @@ ghost use Rattle.rule_table.specs.Sizes.{top_tickets};
 
 use crate::fixed_tickets::is_constant;
 use crate::free_tickets::is_free;
-use crate::masks::row;
+use crate::masks::{Masks, masks_of, row};
 use crate::overtaking::steady_masks;
 use crate::reach::reach_masks;
 use crate::rule::Rule;
-use crate::sizes::TOP_TICKETS;
 
 // Free tickets cover all that they reach, fixed ones themselves, others none.
-fn cover_mask(count: u8, rules: &[Rule], reach: u32, steadies: &[u32; 32], k: u8) -> u32
+fn cover_mask(count: u8, rules: &[Rule], reach: u32, steadies: &Masks, k: u8) -> u32
     requires { k < top_tickets }
     ensures { result ≡ cover_step count rules.now reach steadies.now k }
 {
@@ -29,15 +28,12 @@ fn cover_mask(count: u8, rules: &[Rule], reach: u32, steadies: &[u32; 32], k: u8
 }
 
 // What each of the `count` tickets covers.
-pub(crate) fn cover_masks(count: u8, rules: &[Rule]) -> [u32; 32]
+#[tactic(auto, using(crate::proofs::MaskRows::cover_row))]
+pub(crate) fn cover_masks(count: u8, rules: &[Rule]) -> Masks
     requires { RulesRise top_tickets rules.now }
     ensures { MaskRows (covers_ticket count rules.now) result }
 {
     let reach = reach_masks(rules);
     let steadies = steady_masks(rules, &reach);
-    let mut masks = [0u32; 32];
-    for k in 0..TOP_TICKETS {
-        masks[k as usize] = cover_mask(count, rules, row(&reach, k), &steadies, k);
-    }
-    masks
+    masks_of(|_, k| cover_mask(count, rules, row(&reach, k), &steadies, k))
 }

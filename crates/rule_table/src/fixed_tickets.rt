@@ -3,6 +3,7 @@ ghost use Rattle.rule_table.specs.CoverTests.{each_below, one_next};
 ghost use Rattle.rule_table.specs.Masks.{constant_step};
 ghost use Rattle.rule_table.specs.Sizes.{top_tickets, event_count};
 
+use crate::bounded::all_below;
 use crate::masks::has_ticket;
 use crate::next_tickets::next_ticket;
 use crate::rule::Rule;
@@ -13,46 +14,19 @@ use fares::Gauges;
 fn has_one_next(rules: &[Rule], m: u8, event: u8) -> bool
     ensures { result ≡ one_next rules.now m event }
 {
-    let lowest = Gauges {
-        metres: 0,
-        stops: 0,
-        zones: 0,
-        level: 0,
-    };
-    let largest = Gauges {
-        metres: u32::MAX,
-        stops: u32::MAX,
-        zones: u32::MAX,
-        level: u32::MAX,
-    };
-    next_ticket(rules, m, lowest, event) == next_ticket(rules, m, largest, event)
-}
-
-fn has_one_next_each(rules: &[Rule], m: u8) -> bool
-    ensures { result ≡ each_below (one_next rules.now m) event_count }
-{
-    for event in 0..EVENT_COUNT {
-        if !has_one_next(rules, m, event) {
-            return false;
-        }
-    }
-    true
+    next_ticket(rules, m, Gauges::lowest(), event)
+        == next_ticket(rules, m, Gauges::largest(), event)
 }
 
 fn is_settled(rules: &[Rule], reach: u32, m: u8) -> bool
     ensures { result ≡ constant_step rules.now reach m }
 {
-    !has_ticket(reach, m) || has_one_next_each(rules, m)
+    !has_ticket(reach, m) || all_below(EVENT_COUNT, |event| has_one_next(rules, m, event))
 }
 
 // Whether each of these tickets has, at each event, one next ticket whatever the gauges show.
 pub(crate) fn is_constant(rules: &[Rule], reach: u32) -> bool
     ensures { result ≡ each_below (constant_step rules.now reach) top_tickets }
 {
-    for m in 0..TOP_TICKETS {
-        if !is_settled(rules, reach, m) {
-            return false;
-        }
-    }
-    true
+    all_below(TOP_TICKETS, |m| is_settled(rules, reach, m))
 }

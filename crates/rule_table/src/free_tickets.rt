@@ -3,7 +3,8 @@ ghost use Rattle.rule_table.specs.CoverTests.{each_below};
 ghost use Rattle.rule_table.specs.Masks.{in_line, free_step};
 ghost use Rattle.rule_table.specs.Sizes.{top_tickets};
 
-use crate::masks::{has_ticket, row};
+use crate::bounded::all_below;
+use crate::masks::{Masks, has_ticket, row};
 use crate::sizes::TOP_TICKETS;
 
 // Where both are reached and n is no lower, m must reach n and never overtake it.
@@ -16,22 +17,12 @@ fn is_in_line(reach: u32, ahead: u32, m: u8, n: u8) -> bool
 fn is_ahead(reach: u32, ahead: u32, m: u8) -> bool
     ensures { result ≡ each_below (in_line reach ahead m) top_tickets }
 {
-    for n in 0..TOP_TICKETS {
-        if !is_in_line(reach, ahead, m, n) {
-            return false;
-        }
-    }
-    true
+    all_below(TOP_TICKETS, |n| is_in_line(reach, ahead, m, n))
 }
 
 // Whether a ticket that reaches these is free.
-pub(crate) fn is_free(reach: u32, steadies: &[u32; 32]) -> bool
+pub(crate) fn is_free(reach: u32, steadies: &Masks) -> bool
     ensures { result ≡ each_below (free_step reach steadies.now) top_tickets }
 {
-    for m in 0..TOP_TICKETS {
-        if !is_ahead(reach, row(steadies, m), m) {
-            return false;
-        }
-    }
-    true
+    all_below(TOP_TICKETS, |m| is_ahead(reach, row(steadies, m), m))
 }

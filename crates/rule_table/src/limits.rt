@@ -1,5 +1,6 @@
-ghost use Rattle.std.specs.Prelude.{◌≡◌, ◌<◌, ◌≤◌, length, nat_le, nat_lt};
-ghost use Rattle.fares.specs.Limits.{top_price};
+ghost use Rattle.std.specs.Prelude.{◌≡◌, ◌≤◌, not, ◌<◌, length, IfSome, if◌then◌else◌};
+ghost use Rattle.std.specs.List.{position_from};
+ghost use Rattle.rule_table.specs.Refusals.{unless_refused};
 ghost use Rattle.rule_table.specs.RuleTables.{prices_within, starts_within, rule_within, rest_within, first_bad};
 ghost use Rattle.rule_table.specs.Sizes.{top_rules};
 
@@ -8,42 +9,20 @@ use crate::rule::Rule;
 use crate::sizes::{LEAST_TICKETS, TOP_RULES, TOP_TICKETS};
 use fares::TOP_PRICE;
 
-fn is_price_within(price: u32) -> bool
-    ensures { result ≡ nat_le price top_price }
-{
-    price <= TOP_PRICE
-}
-
 fn are_prices_within(prices: &[u32]) -> bool
     ensures { result ≡ prices_within prices.now }
 {
-    for price in prices {
-        if !is_price_within(*price) {
-            return false;
-        }
-    }
-    true
-}
-
-fn is_start_within(count: usize, start: u8) -> bool
-    ensures { result ≡ nat_lt start count }
-{
-    (start as usize) < count
+    prices.iter().all(|price| *price <= TOP_PRICE)
 }
 
 fn are_starts_within(count: usize, starts: &[u8]) -> bool
     ensures { result ≡ starts_within count starts.now }
 {
-    for start in starts {
-        if !is_start_within(count, *start) {
-            return false;
-        }
-    }
-    true
+    starts.iter().all(|start| (*start as usize) < count)
 }
 
-// All but the rules themselves.
-pub(crate) fn is_rest_within(prices: &[u32], rules: &[Rule], starts: &[u8]) -> bool
+// The three are a `RuleTable` once they are within limits; a second struct for before is no plainer.
+fn is_rest_within(prices: &[u32], rules: &[Rule], starts: &[u8]) -> bool
     ensures { result ≡ rest_within prices.now rules.now starts.now }
 {
     LEAST_TICKETS <= prices.len()
@@ -51,6 +30,17 @@ pub(crate) fn is_rest_within(prices: &[u32], rules: &[Rule], starts: &[u8]) -> b
         && rules.len() <= TOP_RULES
         && are_prices_within(prices)
         && are_starts_within(prices.len(), starts)
+}
+
+// All but the rules themselves.
+pub(crate) fn check_rest(prices: &[u32], rules: &[Rule], starts: &[u8]) -> Result<(), Refusal>
+    ensures { result ≡ (if rest_within prices.now rules.now starts.now then Ok tt else Err Refusal.Rest) }
+{
+    if is_rest_within(prices, rules, starts) {
+        Ok(())
+    } else {
+        Err(Refusal::Rest)
+    }
 }
 
 fn is_rule_within(prices: &[u32], rule: &Rule) -> bool
@@ -62,21 +52,21 @@ fn is_rule_within(prices: &[u32], rule: &Rule) -> bool
         && prices[rule.ticket as usize] <= prices[rule.target as usize]
 }
 
-fn bad_rule(place: usize) -> Refusal
-    requires { place < top_rules }
-    ensures { result ≡ Refusal.BadRule place }
+fn first_bad_place(prices: &[u32], rules: &[Rule]) -> Option<usize>
+    ensures first { result ≡ position_from (λ r. not (rule_within prices.now r)) 0 rules.now }
+    ensures within { IfSome result (λ i. i < length rules.now) }
 {
-    Refusal::BadRule { place: place as u8 }
+    rules.iter().position(|rule| !is_rule_within(prices, rule))
 }
 
-pub(crate) fn first_bad_rule(prices: &[u32], rules: &[Rule]) -> Option<Refusal>
+// The first rule outside limits is the cause.
+#[tactic(auto, using(crate::proofs::LimitScans::no_bad, crate::proofs::LimitScans::bad_at))]
+pub(crate) fn check_rules(prices: &[u32], rules: &[Rule]) -> Result<(), Refusal>
     requires { length rules.now ≤ top_rules }
-    ensures { result ≡ first_bad prices.now 0 rules.now }
+    ensures { result ≡ unless_refused (first_bad prices.now 0 rules.now) }
 {
-    for i in 0..rules.len() {
-        if !is_rule_within(prices, &rules[i]) {
-            return Some(bad_rule(i));
-        }
+    match first_bad_place(prices, rules) {
+        None => Ok(()),
+        Some(place) => Err(Refusal::BadRule { place: place as u8 }),
     }
-    None
 }

@@ -41,9 +41,7 @@ fn raised(held: u8, rule: &Rule, ticket: u8, gauges: Gauges, event: u8) -> u8
 pub(crate) fn next_ticket(rules: &[Rule], ticket: u8, gauges: Gauges, event: u8) -> u8
     ensures { result ≡ ticket_after rules.now ticket gauges event }
 {
-    let mut held = ticket;
-    for rule in rules {
-        held = raised(held, rule, ticket, gauges, event);
-    }
-    held
+    rules.iter().fold(ticket, |held, rule| {
+        raised(held, rule, ticket, gauges, event)
+    })
 }

@@ -3,10 +3,11 @@ ghost use Rattle.rule_table.specs.CoverTests.{some_below, some_rule, reaches_tic
 ghost use Rattle.rule_table.specs.Masks.{mask_of, MaskRows, steady_step};
 ghost use Rattle.rule_table.specs.Sizes.{top_tickets, event_count};
 
-use crate::masks::{extended, has_ticket, row};
+use crate::bounded::any_below;
+use crate::masks::{Masks, has_ticket, mask_of, masks_of, row};
 use crate::next_tickets::{event_in, next_ticket};
 use crate::rule::Rule;
-use crate::sizes::{EVENT_COUNT, TOP_TICKETS};
+use crate::sizes::EVENT_COUNT;
 
 // Whether, at the event and the rule's own minima, the rule leads on past all that ticket n comes to.
 fn outruns_at(rules: &[Rule], rule: &Rule, n: u8, event: u8) -> bool
@@ -18,12 +19,7 @@ fn outruns_at(rules: &[Rule], rule: &Rule, n: u8, event: u8) -> bool
 fn outruns(rules: &[Rule], rule: &Rule, n: u8) -> bool
     ensures { result ≡ some_below (outrunning_at rules.now rule.now n) event_count }
 {
-    for event in 0..EVENT_COUNT {
-        if outruns_at(rules, rule, n, event) {
-            return true;
-        }
-    }
-    false
+    any_below(EVENT_COUNT, |event| outruns_at(rules, rule, n, event))
 }
 
 fn overtakes_by(rules: &[Rule], rule: &Rule, m: u8, n: u8) -> bool
@@ -35,12 +31,7 @@ fn overtakes_by(rules: &[Rule], rule: &Rule, m: u8, n: u8) -> bool
 fn overtakes(rules: &[Rule], m: u8, n: u8) -> bool
     ensures { result ≡ some_rule (overtaking_by rules.now m n) rules.now }
 {
-    for rule in rules {
-        if overtakes_by(rules, rule, m, n) {
-            return true;
-        }
-    }
-    false
+    rules.iter().any(|rule| overtakes_by(rules, rule, m, n))
 }
 
 fn is_steady(rules: &[Rule], reach: u32, m: u8, n: u8) -> bool
@@ -52,21 +43,14 @@ fn is_steady(rules: &[Rule], reach: u32, m: u8, n: u8) -> bool
 fn steady_mask(rules: &[Rule], reach: u32, m: u8) -> u32
     ensures { result ≡ mask_of (steady_step rules.now reach m) top_tickets }
 {
-    let mut mask = 0;
-    for n in 0..TOP_TICKETS {
-        mask = extended(mask, n, is_steady(rules, reach, m, n));
-    }
-    mask
+    mask_of(|n| is_steady(rules, reach, m, n))
 }
 
 // What each ticket reaches and never overtakes.
-pub(crate) fn steady_masks(rules: &[Rule], reach: &[u32; 32]) -> [u32; 32]
+#[tactic(auto, using(crate::proofs::MaskRows::steady_row))]
+pub(crate) fn steady_masks(rules: &[Rule], reach: &Masks) -> Masks
     requires { MaskRows (reaches_ticket rules.now) reach.now }
     ensures { MaskRows (steady rules.now) result }
 {
-    let mut masks = [0u32; 32];
-    for m in 0..TOP_TICKETS {
-        masks[m as usize] = steady_mask(rules, row(reach, m), m);
-    }
-    masks
+    masks_of(|_, m| steady_mask(rules, row(reach, m), m))
 }

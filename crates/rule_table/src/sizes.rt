@@ -3,8 +3,11 @@ pub(crate) const LEAST_TICKETS: usize = 1;
 
 pub(crate) const TOP_TICKETS: u8 = 32;
 
+// A place for each ticket.
+pub(crate) const TICKET_PLACES: usize = TOP_TICKETS as usize;
+
 pub(crate) const TOP_RULES: usize = 128;
 
 pub(crate) const EVENT_COUNT: u8 = 16;
 
-pub(crate) const CLASS_COUNT: u8 = 4;
+pub(crate) const CLASS_COUNT: usize = 4;

@@ -1,22 +1,23 @@
-ghost use Rattle.std.specs.Prelude.{◌≡◌, ◌≤◌, false, length, take, is_some};
+ghost use Rattle.std.specs.Prelude.{◌≡◌, false, length, is_some};
 ghost use Rattle.rule_table.specs.CoverTests.{covers_ticket};
 ghost use Rattle.rule_table.specs.Masks.{MaskRows};
 ghost use Rattle.rule_table.specs.RuleTables.{table_refusal};
-ghost use Rattle.rule_table.specs.Sizes.{top_tickets, top_rules};
+ghost use Rattle.short_list.specs.Items.{items};
 
+use crate::masks::Masks;
 use crate::rule::Rule;
+use crate::sizes::{CLASS_COUNT, TICKET_PLACES, TOP_RULES};
+use short_list::ShortList;
 
 // Tickets with their prices, the rules from ticket to ticket, and a start ticket for each stop class.
-// What each ticket covers is decided once, when the table opens.
+// What each ticket covers is decided once, when the table opens: `covered` is no column beside `prices`, but made from all
+// rules at once, for 32 tickets, however many have prices.
 #[derive(Clone, Copy)]
 pub struct RuleTable {
-    pub(crate) prices: [u32; 32],
-    pub(crate) tickets: usize,
-    pub(crate) rules: [Rule; 128],
-    pub(crate) used: usize,
-    pub(crate) starts: [u8; 4],
-    pub(crate) covered: [u32; 32],
-    ghost fits: { (tickets ≤ top_tickets) × (used ≤ top_rules) },
-    ghost opened: { is_some (table_refusal (take tickets prices) (take used rules) starts) ≡ false },
-    ghost decided: { MaskRows (covers_ticket (length (take tickets prices)) (take used rules)) covered },
+    pub(crate) prices: ShortList<u32, TICKET_PLACES>,
+    pub(crate) rules: ShortList<Rule, TOP_RULES>,
+    pub(crate) starts: [u8; CLASS_COUNT],
+    pub(crate) covered: Masks,
+    ghost opened: { is_some (table_refusal (items prices) (items rules) starts) ≡ false },
+    ghost decided: { MaskRows (covers_ticket (length (items prices)) (items rules)) covered },
 }

@@ -6,9 +6,8 @@ ghost use Rattle.rule_table.specs.Rules.{IsNext};
 ghost use Rattle.rule_table.specs.TableLaws.{price_within, table_laws};
 ghost use Rattle.rule_table.specs.SoundTables.{sound_table};
 
-use crate::masks::{has_ticket, row};
+use crate::masks::{Masks, has_ticket, row};
 use crate::next_tickets::next_ticket;
-use crate::sizes::CLASS_COUNT;
 use crate::table::RuleTable;
 use fares::{Gauges, LawfulTariff, Tariff};
 
@@ -16,15 +15,11 @@ use fares::{Gauges, LawfulTariff, Tariff};
 fn price_of(prices: &[u32], ticket: u8) -> u32
     ensures { result ≡ slice_index prices.now ticket }
 {
-    if (ticket as usize) < prices.len() {
-        prices[ticket as usize]
-    } else {
-        0
-    }
+    prices.get(ticket as usize).copied().unwrap_or(0)
 }
 
 // Whether the mask of ticket k, which is one of so many, has ticket l.
-fn has_pair(masks: &[u32; 32], tickets: usize, k: u8, l: u8) -> bool
+fn has_pair(masks: &Masks, tickets: usize, k: u8, l: u8) -> bool
     ensures { result ≡ (nat_lt k tickets && ticket_listed (slice_index masks.now k) l) }
 {
     (k as usize) < tickets && has_ticket(row(masks, k), l)
@@ -38,23 +33,20 @@ impl Tariff for RuleTable {
     ghost priced = { λ t k. price_within (prices_of t) k (sound_table t).priced };
 
     fn start(&self, class: u8) -> u8 {
-        if class < CLASS_COUNT {
-            self.starts[class as usize]
-        } else {
-            0
-        }
+        self.starts.get(class as usize).copied().unwrap_or(0)
     }
 
     fn price(&self, ticket: u8) -> u32 {
-        price_of(&self.prices[0..self.tickets], ticket)
+        price_of(self.prices.as_slice(), ticket)
     }
 
     fn next(&self, ticket: u8, gauges: Gauges, event: u8) -> u8 {
-        next_ticket(&self.rules[0..self.used], ticket, gauges, event)
+        next_ticket(self.rules.as_slice(), ticket, gauges, event)
     }
 
+    #[tactic(auto, using(crate::specs::SoundTables::covers_marked))]
     fn covers(&self, ticket: u8, other: u8) -> bool {
-        has_pair(&self.covered, self.tickets, ticket, other)
+        has_pair(&self.covered, self.prices.len(), ticket, other)
     }
 }
 
@@ -64,6 +56,7 @@ impl LawfulTariff for RuleTable {
 
 impl RuleTable {
     // The next ticket, in the words of the rules.
+    #[tactic(auto, using(crate::specs::SoundTables::next_named))]
     pub fn next_named(&self, ticket: u8, gauges: Gauges, event: u8) -> u8
         ensures { IsNext (rules_of self.now) ticket gauges event result }
     {
@@ -72,6 +65,7 @@ impl RuleTable {
 
     // Whether the ticket covers the other, in the words of free and fixed tickets: the masks decide what is defined over
     // all readings.
+    #[tactic(auto, using(crate::specs::SoundTables::covers_decided))]
     pub fn is_covering(&self, ticket: u8, other: u8) -> bool
         ensures { Decides result (Covers (tickets_of self.now) (rules_of self.now) ticket other) }
     {

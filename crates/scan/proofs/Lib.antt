@@ -1,5 +1,3 @@
 pub mod Loops
-pub mod Stores
-pub mod Hops
-pub mod WholeRounds
-pub mod HopReads
+pub mod Filling
+pub mod Stages

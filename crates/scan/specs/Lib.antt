@@ -1,1 +1,3 @@
 pub mod Scanned
+pub mod Filling
+pub mod Stages

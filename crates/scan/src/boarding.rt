@@ -1,12 +1,14 @@
-ghost use Rattle.std.specs.Prelude.{◌≡◌, ◌<◌, ◌≤◌, length, take};
+ghost use Rattle.std.specs.Prelude.{◌≡◌, length};
 ghost use Rattle.journeys.specs.Fare.{boarded};
 ghost use Rattle.journeys.specs.Labels.{boards};
-ghost use Rattle.journeys.specs.Lists.{any};
-ghost use Rattle.journeys.specs.Runs.{Written};
+ghost use Rattle.std.specs.List.{list_any};
+ghost use Rattle.journeys.specs.Runs.{run_each};
 ghost use Rattle.journeys.specs.Scan.{seat as seat_run, board as board_run};
+ghost use Rattle.scan.specs.Filling.{filled, Kept, ran};
 
-use journeys::{Fare, Label, Passenger};
-use timetable::Hop;
+use crate::filled::Filled;
+use crate::turn::Turn;
+use journeys::{Fare, Full, Label, Passenger};
 
 // The fare to ride on with: each ride but the first begins with a change of vehicle.
 fn boarding_state<F: Fare>(fare: &F, label: &Label<F::State>) -> F::State
@@ -18,70 +20,75 @@ fn boarding_state<F: Fare>(fare: &F, label: &Label<F::State>) -> F::State
     fare.change(label.state)
 }
 
+// Whether the fare of somebody aboard covers a fare.
 fn is_state_covered<F: Fare>(fare: &F, aboard: &[Passenger<F::State>], state: F::State) -> bool
-    ensures { result ≡ any (λ p. (F.Fare.model fare.now).covers p.state state) aboard.now }
+    ensures { result ≡ list_any (λ p. (F.Fare.model fare.now).covers p.state state) aboard.now }
 {
-    for passenger in aboard {
-        if fare.covers(passenger.state, state) {
-            return true;
-        }
-    }
-    false
+    aboard
+        .iter()
+        .any(|passenger| fare.covers(passenger.state, state))
 }
 
-// Takes one more aboard unless somebody aboard covers its fare. Answers how many are aboard then,
-// or nothing where there is no place.
+// Takes one more aboard unless somebody aboard covers its fare.
+#[tactic(auto, using(crate::proofs::Filling::any_same))]
 fn seat<F: Fare>(
     fare: &F,
-    aboard: &mut [Passenger<F::State>],
-    count: usize,
     place: u32,
     passenger: Passenger<F::State>,
-) -> Option<usize>
-    requires { count ≤ length aboard.old }
-    ensures { Written aboard.old aboard.new result (seat_run (F.Fare.model fare.now) (length aboard.old) place passenger (take count aboard.old)) }
+    aboard: &mut Filled<Passenger<F::State>>,
+) -> Result<(), Full>
+    ensures run { seat_run (F.Fare.model fare.now) (length aboard.old.places.now) place passenger (filled aboard.old) ≡ ran result (filled aboard.new) }
+    ensures kept { Kept aboard.old aboard.new }
 {
-    if is_state_covered(fare, &aboard[..count], passenger.state) {
-        return Some(count);
-    }
-    if count < aboard.len() {
-        aboard[count] = passenger;
-        return Some(count + 1);
-    }
-    None
+    let covered = is_state_covered(fare, aboard.as_slice(), passenger.state);
+    aboard.fill_unless(covered, passenger, Full::Aboard(place))
 }
 
-// Whether a label may board a hop in this round: reached in the round before, at its stop, in time.
-fn may_board<S: Copy>(round: u32, hop: &Hop, label: &Label<S>) -> bool
-    requires { 0 < round }
-    ensures { result ≡ boards round hop.now label.now }
+// Whether a label may board in this turn: reached in the round before, at the hop's stop, in time.
+fn may_board<S: Copy>(turn: &Turn, label: &Label<S>) -> bool
+    ensures { result ≡ boards turn.now.round turn.now.hop label.now }
 {
-    (label.rides == round - 1) & ((label.stop == hop.from) & (label.time <= hop.departure))
+    (label.rides == turn.round - 1)
+        & ((label.stop == turn.hop.from) & (label.time <= turn.hop.departure))
 }
 
-// The label at `from` boards the hop at `place`, if it may.
-pub(crate) fn board<F: Fare>(
+// The label at `from` boards, if it may. (`from` and `label` come as a pair from `enumerate`; a struct of them would be made
+// and taken apart at each step, and is no plainer.)
+fn board<F: Fare>(
     fare: &F,
-    aboard: &mut [Passenger<F::State>],
-    count: usize,
-    round: u32,
-    place: u32,
-    hop: &Hop,
+    turn: &Turn,
     from: usize,
     label: &Label<F::State>,
-) -> Option<usize>
-    requires count_in_bounds { count ≤ length aboard.old }
-    requires round_nonzero { 0 < round }
-    ensures { Written aboard.old aboard.new result (board_run (F.Fare.model fare.now) (length aboard.old) round place hop.now from label.now (take count aboard.old)) }
+    aboard: &mut Filled<Passenger<F::State>>,
+) -> Result<(), Full>
+    ensures run { board_run (F.Fare.model fare.now) (length aboard.old.places.now) turn.now.round turn.now.place turn.now.hop from label.now (filled aboard.old) ≡ ran result (filled aboard.new) }
+    ensures kept { Kept aboard.old aboard.new }
 {
-    if may_board(round, hop, label) {
-        let state = boarding_state(fare, label);
-        let passenger = Passenger {
-            state,
-            label: from,
-            first: place as usize,
-        };
-        return seat(fare, aboard, count, place, passenger);
+    if !may_board(turn, label) {
+        return Ok(());
     }
-    Some(count)
+    let state = boarding_state(fare, label);
+    let passenger = Passenger {
+        state,
+        label: from,
+        first: turn.place as usize,
+    };
+    seat(fare, turn.place, passenger, aboard)
+}
+
+// The labels board in store order.
+#[tactic(auto, using(crate::proofs::Filling::kept_then))]
+pub(crate) fn board_all<F: Fare>(
+    fare: &F,
+    turn: &Turn,
+    labels: &[Label<F::State>],
+    aboard: &mut Filled<Passenger<F::State>>,
+) -> Result<(), Full>
+    ensures run { run_each (board_run (F.Fare.model fare.now) (length aboard.old.places.now) turn.now.round turn.now.place turn.now.hop) 0 labels.now (filled aboard.old) ≡ ran result (filled aboard.new) }
+    ensures kept { Kept aboard.old aboard.new }
+{
+    for (from, label) in labels.iter().enumerate() {
+        board(fare, turn, from, label, aboard)?;
+    }
+    Ok(())
 }

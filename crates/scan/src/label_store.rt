@@ -1,17 +1,20 @@
-ghost use Rattle.std.specs.Prelude.{◌≡◌, length, take};
+ghost use Rattle.std.specs.Prelude.{◌≡◌, ◌≤◌, length, take};
 ghost use Rattle.journeys.specs.Runs.{overlay, result_of};
 ghost use Rattle.journeys.specs.Scan.{scan_for};
 ghost use Rattle.scan.specs.Scanned.{told, used_after};
 
-use crate::scanning::scan;
+use crate::filled::Filled;
+use crate::ride::{Given, scan};
 use journeys::{Fare, Footpath, Full, Label, Passenger, Question};
 use timetable::Timetable;
 
-// The labels of one question, in places that the caller lends: the first `used` are written.
+// The labels of one question, in places that the caller lends: the first `used` are written. (There is no heap, so the
+// count stands beside the places. A `Filled` inside is no plainer: each clause of the planner would speak of it.)
 #[derive(Drop)]
 pub struct LabelStore<'a, S> {
     labels: &'a mut [Label<S>],
     used: usize,
+    ghost fits: { used ≤ length labels.now },
 }
 
 impl<'a, S: Copy> LabelStore<'a, S> {
@@ -19,6 +22,7 @@ impl<'a, S: Copy> LabelStore<'a, S> {
     pub fn over(labels: &'a mut [Label<S>]) -> LabelStore<'a, S>
         ensures labels { result.labels.now ≡ labels.old }
         ensures used { result.used ≡ 0 }
+        ensures same_labels { result.labels.ghost_name ≡ labels.entry.ghost_name }
     {
         LabelStore { labels, used: 0 }
     }
@@ -41,11 +45,7 @@ impl<'a, S: Copy> LabelStore<'a, S> {
     pub fn written(&self) -> &[Label<S>]
         ensures { result.now ≡ take self.now.used self.now.labels.now }
     {
-        let used = self.used;
-        if used <= self.labels.len() {
-            return &self.labels[0..used];
-        }
-        self.labels
+        &self.labels[..self.used]
     }
 
     // Scans a question anew. Where a list is full, none of the labels counts as written.
@@ -61,19 +61,20 @@ impl<'a, S: Copy> LabelStore<'a, S> {
         ensures labels { self.new.labels.now ≡ overlay (result_of (scan_for (F.Fare.model fare.now) (T.Timetable.hops timetable.now) paths.now question.now self.old.labels.now aboard.old)).store self.old.labels.now }
         ensures used { self.new.used ≡ used_after (scan_for (F.Fare.model fare.now) (T.Timetable.hops timetable.now) paths.now question.now self.old.labels.now aboard.old) }
         ensures aboard { aboard.new ≡ (result_of (scan_for (F.Fare.model fare.now) (T.Timetable.hops timetable.now) paths.now question.now self.old.labels.now aboard.old)).places }
+        ensures same_labels { self.new.labels.ghost_name ≡ self.old.labels.ghost_name }
     {
         self.used = 0;
-        let done = scan(
+        // lent by a name of their own, so that what they hold is known once the scan is over
+        let places = &mut *self.labels;
+        let mut labels = Filled::over(places);
+        let mut aboard = Filled::over(aboard);
+        let given = Given {
             timetable,
             fare,
             paths,
-            self.labels,
-            aboard,
-            question.origin,
-            question.departure,
-            question.rides,
-        )?;
-        self.used = done.used;
+        };
+        scan(&given, question, &mut labels, &mut aboard)?;
+        self.used = labels.len();
         Ok(())
     }
 }

@@ -1,27 +1,21 @@
-ghost use Rattle.std.specs.Prelude.{◌≤◌, length, take};
-ghost use Rattle.journeys.specs.Runs.{Written};
+ghost use Rattle.std.specs.Prelude.{◌≡◌, length};
 ghost use Rattle.journeys.specs.Scan.{offer as offer_run};
+ghost use Rattle.scan.specs.Filling.{filled, Kept, ran};
 
 use crate::covering::is_covered;
-use journeys::{Fare, Label};
+use crate::filled::Filled;
+use journeys::{Fare, Full, Label};
 
-// Writes a candidate next unless an earlier label covers it. Answers how many labels there are
-// then, or nothing where there is no room.
+// Writes a candidate next unless an earlier label covers it.
+#[tactic(auto, using(crate::proofs::Filling::any_same))]
 pub(crate) fn offer<F: Fare>(
     fare: &F,
-    labels: &mut [Label<F::State>],
-    used: usize,
     candidate: Label<F::State>,
-) -> Option<usize>
-    requires { used ≤ length labels.old }
-    ensures { Written labels.old labels.new result (offer_run (F.Fare.model fare.now) (length labels.old) candidate (take used labels.old)) }
+    labels: &mut Filled<Label<F::State>>,
+) -> Result<(), Full>
+    ensures run { offer_run (F.Fare.model fare.now) (length labels.old.places.now) candidate (filled labels.old) ≡ ran result (filled labels.new) }
+    ensures kept { Kept labels.old labels.new }
 {
-    if is_covered(fare, &labels[..used], &candidate) {
-        return Some(used);
-    }
-    if used < labels.len() {
-        labels[used] = candidate;
-        return Some(used + 1);
-    }
-    None
+    let covered = is_covered(fare, labels.as_slice(), &candidate);
+    labels.fill_unless(covered, candidate, Full::Store)
 }

@@ -1,66 +1,56 @@
-ghost use Rattle.std.specs.Prelude.{◌≡◌, ◌≤◌, map, length, take};
+ghost use Rattle.std.specs.Prelude.{◌≡◌, map, length};
 ghost use Rattle.journeys.specs.Labels.{label_by_ride, rides_on};
-ghost use Rattle.journeys.specs.Runs.{Written, run_each, overlay};
+ghost use Rattle.journeys.specs.Runs.{run_each, overlay};
 ghost use Rattle.journeys.specs.Scan.{alight};
+ghost use Rattle.scan.specs.Filling.{filled, Kept, ran};
 
+use crate::filled::Filled;
 use crate::offering::offer;
-use journeys::{Fare, Label, Passenger, Way};
+use crate::turn::Turn;
+use journeys::{Fare, Full, Label, Passenger, Way};
 use timetable::Hop;
 
 // All aboard ride a hop on.
-pub(crate) fn ride_all<F: Fare>(
-    fare: &F,
-    aboard: &mut [Passenger<F::State>],
-    count: usize,
-    hop: &Hop,
-)
-    requires { count ≤ length aboard.old }
-    ensures { aboard.new ≡ overlay (map (rides_on (F.Fare.model fare.now) hop.now) (take count aboard.old)) aboard.old }
+pub(crate) fn ride_all<F: Fare>(fare: &F, hop: &Hop, aboard: &mut Filled<Passenger<F::State>>)
+    ensures same { aboard.new.places.ghost_name ≡ aboard.old.places.ghost_name }
+    ensures used { aboard.new.used ≡ aboard.old.used }
+    ensures places { aboard.new.places.now ≡ overlay (map (rides_on (F.Fare.model fare.now) hop.now) (filled aboard.old)) aboard.old.places.now }
 {
-    for seat in 0..count {
-        let passenger = aboard[seat];
-        let state = fare.ride(hop, passenger.state);
-        aboard[seat] = Passenger {
-            state,
-            label: passenger.label,
-            first: passenger.first,
-        };
-    }
+    aboard.change_each(|passenger| Passenger {
+        state: fare.ride(hop, passenger.state),
+        label: passenger.label,
+        first: passenger.first,
+    });
 }
 
-fn ride_label<S: Copy>(round: u32, place: u32, hop: &Hop, passenger: &Passenger<S>) -> Label<S>
-    ensures { result ≡ label_by_ride round place hop.now passenger.now }
+fn ride_label<S: Copy>(turn: &Turn, passenger: &Passenger<S>) -> Label<S>
+    ensures { result ≡ label_by_ride turn.now.round turn.now.place turn.now.hop passenger.now }
 {
     Label {
-        stop: hop.to,
-        time: hop.arrival,
-        rides: round,
+        stop: turn.hop.to,
+        time: turn.hop.arrival,
+        rides: turn.round,
         state: passenger.state,
         way: Way::Rode {
             first: passenger.first,
-            last: place as usize,
+            last: turn.place as usize,
             from: passenger.label,
         },
     }
 }
 
-// All aboard are offered, in order, at the stop to which a hop leads.
+// All aboard are offered, in order, at the stop to which the hop leads.
 pub(crate) fn alight_all<F: Fare>(
     fare: &F,
+    turn: &Turn,
     aboard: &[Passenger<F::State>],
-    labels: &mut [Label<F::State>],
-    used: usize,
-    round: u32,
-    place: u32,
-    hop: &Hop,
-) -> Option<usize>
-    requires { used ≤ length labels.old }
-    ensures { Written labels.old labels.new result (run_each (alight (F.Fare.model fare.now) (length labels.old) round place hop.now) 0 aboard.now (take used labels.old)) }
+    labels: &mut Filled<Label<F::State>>,
+) -> Result<(), Full>
+    ensures run { run_each (alight (F.Fare.model fare.now) (length labels.old.places.now) turn.now.round turn.now.place turn.now.hop) 0 aboard.now (filled labels.old) ≡ ran result (filled labels.new) }
+    ensures kept { Kept labels.old labels.new }
 {
-    let mut written = used;
-    for seat in 0..aboard.len() {
-        let candidate = ride_label(round, place, hop, &aboard[seat]);
-        written = offer(fare, labels, written, candidate)?;
+    for passenger in aboard {
+        offer(fare, ride_label(turn, passenger), labels)?;
     }
-    Some(written)
+    Ok(())
 }

@@ -1,4 +1,3 @@
-pub mod Listings
 pub mod Members
 pub mod LayerAnswers
 pub mod Outcomes

@@ -1,7 +1,8 @@
 -- Tables as sets: what they list, and how many.
-use Rattle.std.proofs.Common.{◌≡◌, ℕ, zero, suc, ◌<◌, ◌≤◌, Bool, true, false, cond, not, ◌&&◌, ◌||◌, eqb, ltb, leb, List, [], ◌∷◌, length, sym, refl, ap, ◌∙◌, subst, ⊎_elim, arith}
-use Rattle.std.proofs.lemmas.Bool.{eq-eqb, ne_eqb, eqb-true, eqb-false, cases_eq, or_from, and_parts, and_from, and_right, not-true, ltb-true, lt-ltb}
-use Rattle.service_day.specs.Tables.{most_listed, trip_numbers, listed, tidy, without, with_entry, no_room}
+use Rattle.std.proofs.Common.{◌≡◌, ℕ, zero, suc, ◌<◌, ◌≤◌, Bool, true, false, cond, not, ◌&&◌, ◌||◌, eqb, ltb, leb, List, [], ◌∷◌, ◌++◌, length, sym, refl, ap, ◌∙◌, ⊎_elim, arith}
+use Rattle.std.specs.Prelude.{if◌then◌else◌}
+use Rattle.std.proofs.lemmas.Bool.{eq-eqb, ne_eqb, eqb-true, eqb-false, cases_eq, or_from, and_parts, and_from, and_right, not-true, ltb-true, lt-ltb, true≢false}
+use Rattle.service_day.specs.Tables.{most_listed, trip_numbers, listed, tidy, without, no_room}
 use Rattle.service_day.specs.Days.{members_below, how_many, set_full}
 
 module _ {E : Type 0} (key : E → ℕ) where
@@ -21,23 +22,14 @@ module _ {E : Type 0} (key : E → ℕ) where
   tidy_tested [] t = refl
   tidy_tested (x ∷ es) t = and_from _ _ (lt-ltb _ _ t.0) (and_from _ _ (ap not t.1) (tidy_tested es t.2))
 
-  pub listed_with : (e : E) (es : List E) (t : ℕ) → listed key t (with_entry key e es) ≡ (eqb (key e) t || listed key t es)
-  listed_with e [] t = refl
-  listed_with e (x ∷ es) t = go (eqb (key x) (key e)) refl (listed_with e es t)
+  pub listed_push : (e : E) (es : List E) (t : ℕ) → listed key t (es ++ e ∷ []) ≡ (eqb (key e) t || listed key t es)
+  listed_push e [] t = refl
+  listed_push e (x ∷ es) t = ap (λ b. eqb (key x) t || b) (listed_push e es t) ∙ swap (eqb (key x) t) (eqb (key e) t) (listed key t es)
     where
-      go : (b : Bool) → eqb (key x) (key e) ≡ b → listed key t (with_entry key e es) ≡ (eqb (key e) t || listed key t es) →
-          listed key t (cond b (e ∷ es) (x ∷ with_entry key e es)) ≡ (eqb (key e) t || (eqb (key x) t || listed key t es))
-      go true p ih = let s = eqb-true (key x) (key e) p in subst (λ k. (eqb (key e) t || listed key t es) ≡ (eqb (key e) t || (eqb k t || listed key t es))) (sym s) (twice (eqb (key e) t) (listed key t es))
-        where
-          twice : (a b : Bool) → (a || b) ≡ (a || (a || b))
-          twice true b = refl
-          twice false b = refl
-      go false p ih = ap (λ b. eqb (key x) t || b) ih ∙ swap (eqb (key x) t) (eqb (key e) t) (listed key t es)
-        where
-          swap : (a b c : Bool) → (a || (b || c)) ≡ (b || (a || c))
-          swap true true c = refl
-          swap true false c = refl
-          swap false b c = refl
+      swap : (a b c : Bool) → (a || (b || c)) ≡ (b || (a || c))
+      swap true true c = refl
+      swap true false c = refl
+      swap false b c = refl
 
   pub listed_without : (trip : ℕ) (es : List E) (t : ℕ) → listed key t (without key trip es) ≡ (not (eqb trip t) && listed key t es)
   listed_without trip [] t = go (eqb trip t)
@@ -58,14 +50,15 @@ module _ {E : Type 0} (key : E → ℕ) where
           ap (λ b. eqb (key x) t || b) ih ∙ ap (λ b. b || false) (ap (eqb (key x)) (sym s) ∙ p)
       go false false p q ih = ap (λ b. eqb (key x) t || b) ih
 
-  pub tidy_with : (e : E) (es : List E) → key e < trip_numbers → Tidy es → Tidy (with_entry key e es)
-  tidy_with e [] h t = (h, refl, tt)
-  tidy_with e (x ∷ es) h t = go (eqb (key x) (key e)) refl (tidy_with e es h t.2)
+  pub tidy_push : (e : E) (es : List E) → key e < trip_numbers → listed key (key e) es ≡ false → Tidy es → Tidy (es ++ e ∷ [])
+  tidy_push e [] h new t = (h, refl, tt)
+  tidy_push e (x ∷ es) h new t =
+      let apart = or_none (eqb (key x) (key e)) _ new in
+      (t.0, listed_push e es (key x) ∙ or_from (eqb (key e) (key x)) _ (ne_eqb (key e) (key x) (λ s. eqb-false (key x) (key e) apart.0 (sym s))) t.1, tidy_push e es h apart.1 t.2)
     where
-      go : (b : Bool) → eqb (key x) (key e) ≡ b → Tidy (with_entry key e es) → Tidy (cond b (e ∷ es) (x ∷ with_entry key e es))
-      go true p ih = (h, subst (λ k. listed key k es ≡ false) (eqb-true (key x) (key e) p) t.1, t.2)
-      go false p ih =
-          (t.0, listed_with e es (key x) ∙ or_from (eqb (key e) (key x)) _ (ne_eqb (key e) (key x) (λ s. eqb-false (key x) (key e) p (sym s))) t.1, ih)
+      or_none : (a b : Bool) → (a || b) ≡ false → (a ≡ false) × (b ≡ false)
+      or_none true b n = absurd (true≢false n)
+      or_none false b n = (refl, n)
 
   pub tidy_without : (trip : ℕ) (es : List E) → Tidy es → Tidy (without key trip es)
   tidy_without trip [] t = tt
@@ -119,8 +112,12 @@ module _ {E : Type 0} (key : E → ℕ) where
   pub full_as_set : (trip : ℕ) (es : List E) → tidy key es ≡ true → no_room key trip es ≡ set_full trip (λ t. listed key t es)
   full_as_set trip es t = ap (λ m. not (listed key trip es) && leb most_listed m) (sym (how_many_listed es t))
 
-  pub still_tidy_with : (e : E) (es : List E) → key e < trip_numbers → tidy key es ≡ true → tidy key (with_entry key e es) ≡ true
-  still_tidy_with e es h t = tidy_tested key (with_entry key e es) (tidy_with key e es h (tidy_facts key es t))
+  pub still_tidy_push : (e : E) (es : List E) → key e < trip_numbers → listed key (key e) es ≡ false → tidy key es ≡ true → tidy key (es ++ e ∷ []) ≡ true
+  still_tidy_push e es h new t = tidy_tested key (es ++ e ∷ []) (tidy_push key e es h new (tidy_facts key es t))
 
   pub still_tidy_without : (trip : ℕ) (es : List E) → tidy key es ≡ true → tidy key (without key trip es) ≡ true
   still_tidy_without trip es t = tidy_tested key (without key trip es) (tidy_without key trip es (tidy_facts key es t))
+
+  pub still_tidy_listed : (e : E) (es fs : List E) (b : Bool) → fs ≡ (if b then es ++ e ∷ [] else es) → key e < trip_numbers → listed key (key e) es ≡ false → tidy key es ≡ true → tidy key fs ≡ true
+  still_tidy_listed e es fs true q h new t = ap (tidy key) q ∙ still_tidy_push e es h new t
+  still_tidy_listed e es fs false q h new t = ap (tidy key) q ∙ t

@@ -1,6 +1,7 @@
--- Tables that list entries by trip, in the order in which they came.
+-- Tables that list entries by trip.
 -- Assumes nothing.
-use Rattle.std.specs.Prelude.{ℕ, suc, Bool, true, false, cond, not, ◌&&◌, ◌||◌, List, [], ◌∷◌, length, filter, ◌==◌, nat_le, nat_lt}
+use Rattle.std.specs.Prelude.{ℕ, Bool, true, not, ◌&&◌, List, [], ◌∷◌, length, filter, ◌==◌, nat_le, nat_lt}
+use Rattle.std.specs.List.{list_any}
 use Rattle.timetable.specs.Table.{most_hops}
 
 -- the most trips that a table lists
@@ -19,27 +20,16 @@ itself trip = trip
 module _ {E : Type 0} (key : E → ℕ) where
   -- the trip has an entry
   abbrev pub listed : ℕ → List E → Bool
-  listed trip [] = false
-  listed trip (e ∷ es) = key e == trip || listed trip es
+  listed trip es = list_any (λ e. key e == trip) es
 
   -- each entry is of a trip number, and no trip has two
   abbrev pub tidy : List E → Bool
   tidy [] = true
   tidy (e ∷ es) = nat_lt (key e) trip_numbers && (not (listed (key e) es) && tidy es)
 
-  -- the place of the first entry of a trip; the number of entries where there is none
-  abbrev pub place_of : ℕ → List E → ℕ
-  place_of trip [] = 0
-  place_of trip (e ∷ es) = cond (key e == trip) 0 (suc (place_of trip es))
-
   -- the entries of other trips, closed up
   abbrev pub without : ℕ → List E → List E
   without trip es = filter (λ e. not (key e == trip)) es
-
-  -- e in the place of the first entry of its trip, else behind all
-  abbrev pub with_entry : E → List E → List E
-  with_entry e [] = e ∷ []
-  with_entry e (x ∷ xs) = cond (key x == key e) (e ∷ xs) (x ∷ with_entry e xs)
 
   -- an entry is needed, and the table is full
   abbrev pub no_room : ℕ → List E → Bool

@@ -1,27 +1,73 @@
-ghost use Rattle.std.specs.Prelude.{◌≡◌, false, map};
+ghost use Rattle.std.specs.Prelude.{◌≡◌, ◌<◌, true, false, [], ◌∷◌, ◌++◌, length, Some, None, nat_lt, if◌then◌else◌};
+ghost use Rattle.short_list.specs.Items.{items};
 ghost use Rattle.timetable.specs.Table.{trips_of};
 ghost use Rattle.service_day.specs.Changes.{cancelled_by};
 ghost use Rattle.service_day.specs.Days.{cancelling, reinstating};
-ghost use Rattle.service_day.specs.LayerRule.{cancelled_gentle, layer_keeps};
-ghost use Rattle.service_day.specs.Layers.{cancelled_in};
+ghost use Rattle.service_day.specs.LayerRule.{cancelled_gentle};
+ghost use Rattle.service_day.specs.Layers.{cancelled_in, off_in};
 ghost use Rattle.service_day.specs.Refusals.{told, left};
+ghost use Rattle.service_day.specs.Tables.{itself, most_listed, trip_numbers, without};
 
+use crate::cancelled_trips::CancelledTrips;
 use crate::changes::halted;
-use crate::layers::{Cancellations, MOST_LISTED};
-use crate::listing::{place_of, strike};
+use crate::layer::{Changes, Layer};
 use crate::refusal::Refusal;
+use short_list::ShortList;
 use timetable::{Hop, Timetable};
 
-impl<T: Timetable> Cancellations<T> {
+// A timetable in which the listed trips do not run.
+pub type Cancellations<T> = Layer<T, CancelledTrips>;
+
+impl CancelledTrips {
+    fn is_listed(&self, trip: u32) -> bool
+        ensures { result ≡ off_in self.now trip }
+    {
+        self.trips.as_slice().iter().any(|listed| *listed == trip)
+    }
+
+    // Lists a trip, where an entry is left.
+    fn list(&mut self, trip: u32) -> Option<()>
+        requires number { trip < trip_numbers }
+        requires new { off_in self.old trip ≡ false }
+        ensures room { result ≡ (if nat_lt (length (items self.old.trips)) most_listed then Some tt else None) }
+        ensures listed { items self.new.trips ≡ (if nat_lt (length (items self.old.trips)) most_listed then items self.old.trips ++ trip ∷ [] else items self.old.trips) }
+    {
+        self.trips.push(trip)
+    }
+
+    // Takes a trip out.
+    fn strike(&mut self, trip: u32)
+        ensures { items self.new.trips ≡ without itself trip (items self.old.trips) }
+    {
+        self.trips.retain(|listed| *listed != trip);
+    }
+}
+
+impl Changes for CancelledTrips {
+    ghost change = { λ c. cancelled_by (off_in c) };
+
+    ghost gentle = { λ c. cancelled_gentle (off_in c) };
+
+    fn changed(&self, hop: Hop) -> Hop {
+        if self.is_listed(hop.trip) {
+            halted(hop)
+        } else {
+            hop
+        }
+    }
+}
+
+impl<T: Timetable> Layer<T, CancelledTrips> {
     // No trip is cancelled at first.
     pub fn new(below: T) -> Cancellations<T>
         ensures set { cancelled_in result ≡ (λ _. false) }
         ensures under { result.below ≡ below }
     {
-        Cancellations {
+        Layer {
             below,
-            trips: [0; MOST_LISTED],
-            used: 0,
+            changes: CancelledTrips {
+                trips: ShortList::empty(0),
+            },
         }
     }
 
@@ -29,8 +75,7 @@ impl<T: Timetable> Cancellations<T> {
     pub fn is_cancelled(&self, trip: u32) -> bool
         ensures { result ≡ cancelled_in self.now trip }
     {
-        let used = self.used;
-        place_of(&self.trips[0..used], trip) < used
+        self.changes.is_listed(trip)
     }
 
     // Cancels a trip, if it is not cancelled already.
@@ -42,16 +87,10 @@ impl<T: Timetable> Cancellations<T> {
         if trip >= self.below.trips() {
             return Err(Refusal::NoSuchTrip(trip));
         }
-        let used = self.used;
-        let place = place_of(&self.trips[0..used], trip);
-        if place >= MOST_LISTED {
-            return Err(Refusal::TableFull(trip));
+        if self.is_cancelled(trip) {
+            return Ok(());
         }
-        self.trips[place] = trip;
-        if place >= used {
-            self.used = used + 1;
-        }
-        Ok(())
+        self.changes.list(trip).ok_or(Refusal::TableFull(trip))
     }
 
     // Reinstates a cancelled trip.
@@ -66,33 +105,7 @@ impl<T: Timetable> Cancellations<T> {
         if !self.is_cancelled(trip) {
             return Err(Refusal::NotCancelled(trip));
         }
-        let used = self.used;
-        self.used = strike(&mut self.trips, used, trip);
+        self.changes.strike(trip);
         Ok(())
-    }
-}
-
-impl<T: Timetable> Timetable for Cancellations<T> {
-    ghost hops = { λ c. map (cancelled_by (cancelled_in c)) (T.Timetable.hops c.below) };
-
-    ghost rule = { λ c. layer_keeps (cancelled_by (cancelled_in c)) (cancelled_gentle (cancelled_in c)) (T.Timetable.hops c.below) (T.Timetable.rule c.below) };
-
-    fn count(&self) -> u32 {
-        self.below.count()
-    }
-
-    fn trips(&self) -> u32 {
-        self.below.trips()
-    }
-
-    fn hop(&self, place: u32) -> Option<Hop> {
-        let Some(hop) = self.below.hop(place) else {
-            return None;
-        };
-        if self.is_cancelled(hop.trip) {
-            Some(halted(hop))
-        } else {
-            Some(hop)
-        }
     }
 }

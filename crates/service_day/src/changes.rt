@@ -8,9 +8,7 @@ use timetable::{DAY_END, Hop};
 pub(crate) fn halted(hop: Hop) -> Hop
     ensures { result ≡ halted_hop hop }
 {
-    let mut hop = hop;
-    hop.runs = false;
-    hop
+    Hop { runs: false, ..hop }
 }
 
 // The hop so many seconds later if it runs; one that would so arrive after the day's end stays and
@@ -19,17 +17,15 @@ pub(crate) fn moved(hop: Hop, seconds: u32) -> Hop
     requires { fit hop ≡ true }
     ensures { result ≡ moved_hop seconds hop }
 {
-    if !hop.runs {
-        return hop;
-    }
-    if seconds == 0 {
+    if !hop.runs || seconds == 0 {
         return hop;
     }
     if seconds > DAY_END.saturating_sub(hop.arrival) {
         return halted(hop);
     }
-    let mut hop = hop;
-    hop.departure += seconds;
-    hop.arrival += seconds;
-    hop
+    Hop {
+        departure: hop.departure + seconds,
+        arrival: hop.arrival + seconds,
+        ..hop
+    }
 }

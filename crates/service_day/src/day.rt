@@ -1,4 +1,5 @@
-use crate::layers::{Cancellations, Delays};
+use crate::cancellations::Cancellations;
+use crate::delays::Delays;
 
 // A timetable as it is on one service day: delays over cancellations.
 #[derive(Drop)]

@@ -1,5 +1,5 @@
 // A delay of a trip, in seconds.
-#[derive(Clone, Copy)]
+#[derive(Clone, Copy, Debug, PartialEq, Eq)]
 pub struct Delay {
     pub trip: u32,
     pub seconds: u32,

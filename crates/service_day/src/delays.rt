@@ -1,17 +1,21 @@
-ghost use Rattle.std.specs.Prelude.{◌≡◌, map};
+ghost use Rattle.std.specs.Prelude.{◌≡◌, ◌<◌, ◌≤◌, ◌==◌, ◌&&◌, false, [], ◌∷◌, ◌++◌, find, length};
+ghost use Rattle.short_list.specs.Items.{items};
 ghost use Rattle.timetable.specs.Table.{trips_of};
 ghost use Rattle.service_day.specs.Changes.{delayed_by};
-ghost use Rattle.service_day.specs.Days.{delaying};
-ghost use Rattle.service_day.specs.DelayTables.{unwritable};
-ghost use Rattle.service_day.specs.LayerRule.{delayed_gentle, layer_keeps};
-ghost use Rattle.service_day.specs.Layers.{delay_in};
+ghost use Rattle.service_day.specs.Days.{longest_delay, delaying};
+ghost use Rattle.service_day.specs.declared.delay.Delay.{Delay as DelayOf};
+ghost use Rattle.service_day.specs.DelayTables.{trip_of};
+ghost use Rattle.service_day.specs.LayerRule.{delayed_gentle};
+ghost use Rattle.service_day.specs.Layers.{delay_in, late_in};
 ghost use Rattle.service_day.specs.Refusals.{told, left};
+ghost use Rattle.service_day.specs.Tables.{most_listed, trip_numbers, listed, without};
 
 use crate::changes::moved;
 use crate::delay::Delay;
-use crate::layers::{Delays, MOST_LISTED};
-use crate::listing::{place_of, strike};
+use crate::delayed_trips::DelayedTrips;
+use crate::layer::{Changes, Layer, MOST_LISTED};
 use crate::refusal::Refusal;
+use short_list::ShortList;
 use timetable::{Hop, Timetable};
 
 // The longest delay, in seconds.
@@ -25,29 +29,73 @@ const BLANK: Delay = Delay {
     seconds: NO_DELAY,
 };
 
-// Why a delay is not written at a place of the table, if it is not.
-fn refusal_at(place: usize, trip: u32, seconds: u32) -> Option<Refusal>
-    ensures { result ≡ unwritable place trip seconds }
-{
-    if place >= MOST_LISTED {
-        return Some(Refusal::TableFull(trip));
+// A timetable in which the listed trips run late.
+pub type Delays<T> = Layer<T, DelayedTrips>;
+
+impl DelayedTrips {
+    fn entry(&self, trip: u32) -> Option<Delay>
+        ensures { result ≡ find (λ (d : DelayOf). d.trip == trip) (items self.now.delays) }
+    {
+        let delays = self.delays.as_slice();
+        delays.iter().copied().find(|delay| delay.trip == trip)
     }
-    if seconds > LONGEST_DELAY {
-        return Some(Refusal::LongDelay(trip));
+
+    // How late a trip runs.
+    #[tactic(auto, using(crate::proofs::Outcomes::seconds_found))]
+    fn seconds(&self, trip: u32) -> u32
+        ensures { result ≡ late_in self.now trip }
+    {
+        self.entry(trip).map_or(NO_DELAY, |delay| delay.seconds)
     }
-    None
+
+    // Whether an entry is needed for a trip, and none is left.
+    fn is_full_for(&self, trip: u32) -> bool
+        ensures { result ≡ (late_in self.now trip == 0 && length (items self.now.delays) == most_listed) }
+    {
+        self.seconds(trip) == NO_DELAY && self.delays.len() == MOST_LISTED
+    }
+
+    // Takes a trip's delay away.
+    fn strike(&mut self, trip: u32)
+        ensures { items self.new.delays ≡ without trip_of trip (items self.old.delays) }
+    {
+        self.delays.retain(|delay| delay.trip != trip);
+    }
+
+    // Lists the delay of a trip that is not listed, where an entry is left.
+    fn list(&mut self, delay: Delay)
+        requires number { delay.trip < trip_numbers }
+        requires late { 0 < delay.seconds }
+        requires short { delay.seconds ≤ longest_delay }
+        requires new { listed trip_of delay.trip (items self.old.delays) ≡ false }
+        requires room { length (items self.old.delays) < most_listed }
+        ensures { items self.new.delays ≡ items self.old.delays ++ delay ∷ [] }
+    {
+        self.delays.push(delay).unwrap();
+    }
 }
 
-impl<T: Timetable> Delays<T> {
+impl Changes for DelayedTrips {
+    ghost change = { λ d. delayed_by (late_in d) };
+
+    ghost gentle = { λ d. delayed_gentle (late_in d) };
+
+    fn changed(&self, hop: Hop) -> Hop {
+        moved(hop, self.seconds(hop.trip))
+    }
+}
+
+impl<T: Timetable> Layer<T, DelayedTrips> {
     // No trip is delayed at first.
     pub fn new(below: T) -> Delays<T>
         ensures delay { delay_in result ≡ (λ _. 0) }
         ensures under { result.below ≡ below }
     {
-        Delays {
+        Layer {
             below,
-            delays: [BLANK; MOST_LISTED],
-            used: 0,
+            changes: DelayedTrips {
+                delays: ShortList::empty(BLANK),
+            },
         }
     }
 
@@ -55,13 +103,7 @@ impl<T: Timetable> Delays<T> {
     pub fn seconds(&self, trip: u32) -> u32
         ensures { result ≡ delay_in self.now trip }
     {
-        let used = self.used;
-        let place = place_of(&self.delays[0..used], trip);
-        if place < used {
-            self.delays[place].seconds
-        } else {
-            NO_DELAY
-        }
+        self.changes.seconds(trip)
     }
 
     // Sets a trip's delay; 0 takes it away.
@@ -73,41 +115,18 @@ impl<T: Timetable> Delays<T> {
         if trip >= self.below.trips() {
             return Err(Refusal::NoSuchTrip(trip));
         }
-        let used = self.used;
         if seconds == NO_DELAY {
-            self.used = strike(&mut self.delays, used, trip);
+            self.changes.strike(trip);
             return Ok(());
         }
-        let place = place_of(&self.delays[0..used], trip);
-        if let Some(refusal) = refusal_at(place, trip, seconds) {
-            return Err(refusal);
+        if self.changes.is_full_for(trip) {
+            return Err(Refusal::TableFull(trip));
         }
-        self.delays[place] = Delay { trip, seconds };
-        if place >= used {
-            self.used = used + 1;
+        if seconds > LONGEST_DELAY {
+            return Err(Refusal::LongDelay(trip));
         }
+        self.changes.strike(trip);
+        self.changes.list(Delay { trip, seconds });
         Ok(())
-    }
-}
-
-impl<T: Timetable> Timetable for Delays<T> {
-    ghost hops = { λ d. map (delayed_by (delay_in d)) (T.Timetable.hops d.below) };
-
-    ghost rule = { λ d. layer_keeps (delayed_by (delay_in d)) (delayed_gentle (delay_in d)) (T.Timetable.hops d.below) (T.Timetable.rule d.below) };
-
-    fn count(&self) -> u32 {
-        self.below.count()
-    }
-
-    fn trips(&self) -> u32 {
-        self.below.trips()
-    }
-
-    fn hop(&self, place: u32) -> Option<Hop> {
-        let Some(hop) = self.below.hop(place) else {
-            return None;
-        };
-        let seconds = self.seconds(hop.trip);
-        Some(moved(hop, seconds))
     }
 }

@@ -8,18 +8,20 @@
 // `Day` is delays over cancellations over any timetable: the timetable as it is on this day
 // (`specs/DayStates`). Calls that can fail answer a `Refusal`.
 mod cancellations;
+mod cancelled_trips;
 mod changes;
 mod day;
 mod delay;
+mod delayed_trips;
 mod delays;
-mod layers;
-mod listing;
+mod layer;
 mod refusal;
 mod refusal_numbers;
 mod whole_days;
 
+pub use cancellations::Cancellations;
 pub use day::Day;
 pub use delay::Delay;
-pub use delays::LONGEST_DELAY;
-pub use layers::{Cancellations, Delays, MOST_LISTED};
+pub use delays::{Delays, LONGEST_DELAY};
+pub use layer::MOST_LISTED;
 pub use refusal::Refusal;

@@ -6,8 +6,9 @@ ghost use Rattle.service_day.specs.LayerRule.{both_keep};
 ghost use Rattle.service_day.specs.Layers.{base, day_of};
 ghost use Rattle.service_day.specs.Refusals.{told};
 
+use crate::cancellations::Cancellations;
 use crate::day::Day;
-use crate::layers::{Cancellations, Delays};
+use crate::delays::Delays;
 use crate::refusal::Refusal;
 use timetable::{Hop, Timetable};
 

@@ -1,5 +1,5 @@
 -- Each refusal has its cause, each cause its refusal, and no two causes stand at once.
-use Rattle.std.proofs.Common.{◌≡◌, ℕ, ◌<◌, ◌≤◌, Bool, true, false, cond, ltb, List, [], length, Some, None, Ok, Err, Option, Result, sym, refl, ap, ◌∙◌, subst, arith}
+use Rattle.std.proofs.Common.{◌≡◌, ℕ, ◌<◌, ◌≤◌, Bool, true, false, cond, ltb, List, [], length, Some, None, Ok, Err, Option, Result, ok_or, IsErrAnd, MatchOption, sym, refl, ap, ◌∙◌, subst, arith}
 use Rattle.std.proofs.lemmas.Bool.{lt-ltb, le-ltb, ltb-true, ltb-false, cond-true, cond-false}
 use Rattle.sheet.specs.declared.rows.Row.{Row}
 use Rattle.sheet.specs.declared.refusals.Refusal.{Refusal}
@@ -95,3 +95,17 @@ few_alone bytes room other few (no_sheet at enough why) = absurd (omega arith)
 
 pub no_room : (bytes : List ℕ) (room : ℕ) → room < most_rows → Only (NotRead bytes room) record { number = 15; values = [] }
 no_room bytes room few = record { stands = few_rows few; alone = λ other why. few_alone bytes room other few why }
+
+-- what an option says where it is told as a result
+module _ {A E : Type 0} (P : Type 0) (Q : A → Type 0) (e : E) where
+  pub none_told : (o : Option A) (m : Result A E) (d : E) → m ≡ ok_or o e → m ≡ Err d → MatchOption o P Q → (d ≡ e) × P
+  none_told None m d v w h = ((let z : d ≡ e = cc in z), h)
+  none_told (Some x) m d v w h = absurd (let z : ◌≡◌ {A = ℕ} 0 1 = cc in omega arith)
+
+  pub some_told : (o : Option A) (m : Result A E) (x : A) → m ≡ ok_or o e → m ≡ Ok x → MatchOption o P Q → Q x
+  some_told None m x v w h = absurd (let z : ◌≡◌ {A = ℕ} 0 1 = cc in omega arith)
+  some_told (Some y) m x v w h = subst Q (let z : y ≡ x = cc in z) h
+
+pub told_err : {X E : Type 0} (r : Result X E) (x : E) → IsErrAnd r (λ e. e ≡ x) → r ≡ Err x
+told_err (Ok v) x h = absurd h
+told_err (Err e) x h = ap Err h

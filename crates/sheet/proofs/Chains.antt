@@ -1,5 +1,5 @@
 -- Rows that fit one after another, and what that says of them in the words of `Good`.
-use Rattle.std.proofs.Common.{◌≡◌, ℕ, ◌+◌, ◌<◌, ◌≤◌, true, ltb, leb, List, [], ◌∷◌, length, Some, None, Option, sym, refl, ◌∙◌, ⊎_elim, arith}
+use Rattle.std.proofs.Common.{◌≡◌, ℕ, ◌+◌, ◌≤◌, true, ltb, leb, List, [], ◌∷◌, length, Some, None, Option, sym, refl, ◌∙◌, ⊎_elim, arith}
 use Rattle.std.specs.List.{AllByRecursion}
 use Rattle.std.proofs.lemmas.Bool.{ltb-true, lt-ltb, le-leb, and_from, and_parts, cases_Bool, cond-true, cond-false}
 use Rattle.sheet.specs.declared.rows.Row.{Row}
@@ -57,18 +57,3 @@ chain_order before (row ∷ rows) h = (follows_true before row h.0, chain_order 
 pub good_from_chain : (rows : List Row) → length rows ≤ most_rows → Chain None rows → Good rows
 good_from_chain [] few h = record { few = few; ranges = tt; order = tt }
 good_from_chain (row ∷ rows) few h = record { few = few; ranges = chain_ranges None (row ∷ rows) h; order = chain_order row rows h.1 }
-
--- a fault is one of the rows
-some_same : (m n : ℕ) → ◌≡◌ {A = Option ℕ} (Some m) (Some n) → m ≡ n
-some_same m n e = cc
-
-none_some : {A : Type 0} (n : ℕ) → ◌≡◌ {A = Option ℕ} None (Some n) → A
-none_some n e = let z : ◌≡◌ {A = ℕ} 0 1 = cc in absurd (omega arith)
-
-pub fault_within : (before : Option Row) (k : ℕ) (rows : List Row) (at : ℕ) → fault_from before k rows ≡ Some at → at < k + length rows
-fault_within before k [] at e = none_some at e
-fault_within before k (row ∷ rows) at e =
-    ⊎_elim
-    (λ t. omega (arith, fault_within (Some row) (k + 1) rows at (sym (cond-true (fits before row) (fault_from (Some row) (k + 1) rows) (Some k) t) ∙ e)))
-    (λ f. omega (arith, some_same k at (sym (cond-false (fits before row) (fault_from (Some row) (k + 1) rows) (Some k) f) ∙ e)))
-    (cases_Bool (fits before row))

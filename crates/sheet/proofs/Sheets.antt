@@ -1,8 +1,8 @@
 -- Whole sheets: encoding good rows and decoding undo one another; and how a loop decodes them, row by row.
-use Rattle.std.proofs.Common.{◌≡◌, ℕ, zero, suc, ◌+◌, ◌-◌, ◌*◌, ◌<◌, ◌≤◌, true, leb, List, [], ◌∷◌, ◌++◌, length, get_or, take, drop, set, Some, None, Ok, Err, Option, Result, sym, refl, ap, ◌∙◌, subst, append_assoc, append-nil, arith, length-append}
+use Rattle.std.proofs.Common.{◌≡◌, ℕ, zero, suc, ◌+◌, ◌-◌, ◌*◌, ◌<◌, ◌≤◌, true, leb, List, [], ◌∷◌, ◌++◌, length, get_or, take, drop, Some, None, Ok, Err, Option, Result, sym, refl, ap, ◌∙◌, subst, append_assoc, append-nil, arith, length-append}
 use Rattle.std.specs.List.{flat_map}
 use Rattle.std.proofs.lemmas.Bool.{le-leb, leb-true, cond-true, cond_both, lt-leb, cond-false}
-use Rattle.std.proofs.lemmas.List.{take_more_set, take_rest}
+use Rattle.std.proofs.lemmas.List.{take_rest}
 use Rattle.sheet.specs.declared.rows.Row.{Row}
 use Rattle.sheet.specs.declared.refusals.Refusal.{Refusal}
 use Rattle.sheet.specs.declared.refusals.Refusal.TheVariants.{NoSheet, NoRow}
@@ -118,26 +118,25 @@ behind_first front row (Ok rows) = ap Ok (sym (append_assoc front (row ∷ []) r
 behind_first front row (Err refusal) = refl
 
 module _ (was : Result (List Row) Refusal) (found : List Row) (before : Option Row) (rest : List ℕ) (count k : ℕ)
-    (so_far : rows_behind (take k found) (decode_rows (count - k) k before rest) ≡ was) where
-  here : k < count → rows_behind (take k found) (decode_rows (suc (count - (k + 1))) k before rest) ≡ was
-  here more = let one : suc (count - (k + 1)) ≡ count - k = omega arith in ap (λ n. rows_behind (take k found) (decode_rows n k before rest)) one ∙ so_far
+    (so_far : rows_behind found (decode_rows (count - k) k before rest) ≡ was) where
+  here : k < count → rows_behind found (decode_rows (suc (count - (k + 1))) k before rest) ≡ was
+  here more = let one : suc (count - (k + 1)) ≡ count - k = omega arith in ap (λ n. rows_behind found (decode_rows n k before rest)) one ∙ so_far
 
   pub stop_row : k < count → decode_row before rest ≡ None → was ≡ Err (NoRow k)
   unfolding decode_rows
   stop_row more none =
-      sym (here more) ∙ ap (λ o. rows_behind (take k found) (rows_from k o (λ row behind. decode_rows (count - (k + 1)) (k + 1) (Some row) behind))) none
+      sym (here more) ∙ ap (λ o. rows_behind found (rows_from k o (λ row behind. decode_rows (count - (k + 1)) (k + 1) (Some row) behind))) none
 
-  pub turn_row : (row : Row) (behind : List ℕ) → k < count → k < length found → decode_row before rest ≡ Some (row, behind)
-      → rows_behind (take (k + 1) (set found k row)) (decode_rows (count - (k + 1)) (k + 1) (Some row) behind) ≡ was
+  pub turn_row : (row : Row) (behind : List ℕ) → k < count → decode_row before rest ≡ Some (row, behind)
+      → rows_behind (found ++ row ∷ []) (decode_rows (count - (k + 1)) (k + 1) (Some row) behind) ≡ was
   unfolding decode_rows
-  turn_row row behind more room some =
-      ap (λ front. rows_behind front (decode_rows (count - (k + 1)) (k + 1) (Some row) behind)) (take_more_set found k row room)
-      ∙ sym (behind_first (take k found) row (decode_rows (count - (k + 1)) (k + 1) (Some row) behind))
-      ∙ sym (ap (λ o. rows_behind (take k found) (rows_from k o (λ row behind. decode_rows (count - (k + 1)) (k + 1) (Some row) behind))) some)
+  turn_row row behind more some =
+      sym (behind_first found row (decode_rows (count - (k + 1)) (k + 1) (Some row) behind))
+      ∙ sym (ap (λ o. rows_behind found (rows_from k o (λ row behind. decode_rows (count - (k + 1)) (k + 1) (Some row) behind))) some)
       ∙ here more
 
-  last : count ≤ k → rows_behind (take k found) (decode_rows zero k before rest) ≡ was
-  last past = let none : zero ≡ count - k = omega arith in ap (λ n. rows_behind (take k found) (decode_rows n k before rest)) none ∙ so_far
+  last : count ≤ k → rows_behind found (decode_rows zero k before rest) ≡ was
+  last past = let none : zero ≡ count - k = omega arith in ap (λ n. rows_behind found (decode_rows n k before rest)) none ∙ so_far
 
 at_end : (k : ℕ) (before : Option Row) (rest : List ℕ) → length rest ≡ 0 → decode_rows zero k before rest ≡ Ok []
 unfolding decode_rows
@@ -150,12 +149,9 @@ left_over k before [] some = absurd (some refl)
 left_over k before (byte ∷ rest) some = refl
 
 module _ (was : Result (List Row) Refusal) (found : List Row) (before : Option Row) (rest : List ℕ) (count k : ℕ)
-    (so_far : rows_behind (take k found) (decode_rows (count - k) k before rest) ≡ was) (past : count ≤ k) where
-  pub all_read : k ≤ count → length rest ≡ 0 → was ≡ Ok (take count found)
-  all_read within none =
-      let same : k ≡ count = omega arith in
-      sym (last was found before rest count k so_far past) ∙ ap (rows_behind (take k found)) (at_end k before rest none)
-      ∙ ap Ok (append-nil (take k found)) ∙ ap (λ n. Ok (take n found)) same
+    (so_far : rows_behind found (decode_rows (count - k) k before rest) ≡ was) (past : count ≤ k) where
+  pub all_read : length rest ≡ 0 → was ≡ Ok found
+  all_read none = sym (last was found before rest count k so_far past) ∙ ap (rows_behind found) (at_end k before rest none) ∙ ap Ok (append-nil found)
 
   pub some_left : (length rest ≡ 0 → ⊥) → was ≡ Err NoSheet
-  some_left some = sym (last was found before rest count k so_far past) ∙ ap (rows_behind (take k found)) (left_over k before rest some)
+  some_left some = sym (last was found before rest count k so_far past) ∙ ap (rows_behind found) (left_over k before rest some)

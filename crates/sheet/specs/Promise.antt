@@ -69,12 +69,12 @@ abbrev pub Written : List Row → List ℕ → List ℕ → Result ℕ Refusal �
 Written rows old new (Ok n) = SheetOf rows (take n new) × Never (NotWritten rows (length old))
 Written rows old new (Err refusal) = Only (NotWritten rows (length old)) (cause refusal)
 
--- what is read from bytes aside, where there is room: the rows in front of those found, or why there are none
-abbrev pub Taken : List ℕ → List Row → Result ℕ Refusal → Type 0
-Taken bytes found (Ok n) =
-    (n ≤ most_rows) × (n ≡ length (take n found)) × (decode bytes ≡ Ok (take n found)) × SheetOf (take n found) bytes
+-- what is read from bytes aside, where there is room: few rows and their sheet, or why there are none
+abbrev pub Taken : {X : Type 0} → (X → List Row) → List ℕ → Result X Refusal → Type 0
+Taken rows bytes (Ok found) =
+    (length (rows found) ≤ most_rows) × (decode bytes ≡ Ok (rows found)) × SheetOf (rows found) bytes
     × ((room : ℕ) → most_rows ≤ room → Never (NotRead bytes room))
-Taken bytes found (Err refusal) = (decode bytes ≡ Err refusal) × ((room : ℕ) → most_rows ≤ room → Only (NotRead bytes room) (cause refusal))
+Taken rows bytes (Err refusal) = (decode bytes ≡ Err refusal) × ((room : ℕ) → most_rows ≤ room → Only (NotRead bytes room) (cause refusal))
 
 -- what the answer to reading says of the bytes, the rows as they were and the rows as they are left
 abbrev pub Found : List ℕ → List Row → List Row → Result ℕ Refusal → Type 0

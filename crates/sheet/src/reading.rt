@@ -1,15 +1,21 @@
 // Reads a sheet back into rows.
-ghost use Rattle.std.specs.Prelude.{◌≡◌, ◌≤◌, length, take, if◌then◌else◌, Some, None, Ok, Err, MatchOption, nat_eq};
-ghost use Rattle.sheet.specs.Rows.{most_rows};
+ghost use Rattle.std.specs.Prelude.{◌≡◌, ◌≤◌, length, take, Some, None, MatchOption};
+ghost use Rattle.short_list.specs.Items.{items};
 ghost use Rattle.sheet.specs.Reading.{spread, bits, row_of, decode_row};
 ghost use Rattle.sheet.specs.Outcome.{laid, reading};
 ghost use Rattle.sheet.specs.Promise.{Taken, Found};
 
 use crate::refusals::Refusal;
 use crate::rows::{MOST_ROWS, Row, can_follow, is_count};
+use short_list::ShortList;
 
 // A map has no bit 6 or 7, so it is below this.
 const NO_MAP: u8 = 64;
+
+const BLANK: Row = Row {
+    arrival: 0,
+    price: 0,
+};
 
 // Reads the rows of `sheet` to the front of `rows`, and answers how many they are; a refusal leaves `rows` as they were.
 pub fn read(sheet: &[u8], rows: &mut [Row]) -> Result<usize, Refusal>
@@ -21,29 +27,23 @@ pub fn read(sheet: &[u8], rows: &mut [Row]) -> Result<usize, Refusal>
         return Err(Refusal::RowsFew);
     }
     // Rows are read aside first, since a fault may stand in the last of them.
-    let mut found = [Row {
-        arrival: 0,
-        price: 0,
-    }; MOST_ROWS];
-    let count = take_rows(sheet, &mut found)?;
-    put_front(&found, count, rows);
-    Ok(count)
+    let found = take_rows(sheet)?;
+    put_front(found.as_slice(), rows);
+    Ok(found.len())
 }
 
-// Puts the first `count` of the rows found in front of `rows`.
-fn put_front(found: &[Row], count: usize, rows: &mut [Row])
-    requires found { count ≤ length found.now }
-    requires room { count ≤ length rows.old }
-    ensures left { rows.new ≡ laid (take count found.now) rows.old }
-    ensures front { take count rows.new ≡ take count found.now }
+// Puts the rows found in front of `rows`.
+fn put_front(found: &[Row], rows: &mut [Row])
+    requires { length found.now ≤ length rows.old }
+    ensures left { rows.new ≡ laid found.now rows.old }
+    ensures front { take (length found.now) rows.new ≡ found.now }
 {
-    rows[0..count].copy_from_slice(&found[0..count]);
+    rows[..found.len()].copy_from_slice(found);
 }
 
-// Reads a whole sheet to the front of `found`, which has room, and answers how many rows it has.
-fn take_rows(sheet: &[u8], found: &mut [Row]) -> Result<usize, Refusal>
-    requires { most_rows ≤ length found.old }
-    ensures { Taken sheet.now found.new result }
+// The rows of a whole sheet.
+fn take_rows(sheet: &[u8]) -> Result<ShortList<Row, MOST_ROWS>, Refusal>
+    ensures { Taken items sheet.now result }
 {
     let [count, bytes @ ..] = sheet else {
         return Err(Refusal::NoSheet);
@@ -51,31 +51,25 @@ fn take_rows(sheet: &[u8], found: &mut [Row]) -> Result<usize, Refusal>
     if !is_count(*count as usize) {
         return Err(Refusal::NoSheet);
     }
+    let mut found = ShortList::empty(BLANK);
     let mut before = None;
     let mut rest = bytes;
+    // counted, since only the row before tells where a row begins: there is no list of rows yet
     for k in 0..*count {
-        let Some((row, behind)) = take_row(before, rest) else {
-            return Err(Refusal::NoRow(k));
-        };
-        found[k as usize] = row;
+        let (row, behind) = take_row(before, rest).ok_or(Refusal::NoRow(k))?;
+        found.push(row).unwrap();
         before = Some(row);
         rest = behind;
     }
-    ended(*count, rest)
-}
-
-// The end of a sheet, behind which no bytes may be left.
-fn ended(count: u8, rest: &[u8]) -> Result<usize, Refusal>
-    ensures { result ≡ (if nat_eq (length rest.now) 0 then Ok count else Err Refusal.NoSheet) }
-{
     if rest.is_empty() {
-        Ok(count as usize)
+        Ok(found)
     } else {
         Err(Refusal::NoSheet)
     }
 }
 
-// The row in front of `bytes`, which stands after `before`, and the bytes behind it.
+// The row in front of `bytes`, which stands after `before`, and the bytes behind it. (A pattern of the slice, here and below,
+// says what the format says; `split_first` and `?` is no plainer.)
 fn take_row(before: Option<Row>, bytes: &[u8]) -> Option<(Row, &[u8])>
     ensures { MatchOption result (decode_row before bytes.now ≡ None) (λ p. decode_row before bytes.now ≡ Some (p.0, p.1.now)) }
 {
@@ -101,7 +95,7 @@ fn take_places(map: u8, packed: &[u8]) -> Option<([u8; 6], &[u8])>
     let mut places = [0; 6];
     let mut left = map;
     let mut rest = packed;
-    for place in 0..6 {
+    for place in &mut places {
         if left % 2 == 1 {
             let [byte, after @ ..] = rest else {
                 return None;
@@ -109,7 +103,7 @@ fn take_places(map: u8, packed: &[u8]) -> Option<([u8; 6], &[u8])>
             if *byte == 0 {
                 return None;
             }
-            places[place] = *byte;
+            *place = *byte;
             rest = after;
         }
         left /= 2;

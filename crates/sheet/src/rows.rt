@@ -15,7 +15,7 @@ pub const LAST_ARRIVAL: u32 = 176_400;
 pub const TOP_PRICE: u32 = 9_999_999;
 
 // One offer: when it arrives, and what it costs.
-#[derive(Clone, Copy, Debug, PartialEq)]
+#[derive(Clone, Copy, Debug, PartialEq, Eq)]
 pub struct Row {
     pub arrival: u32,
     pub price: u32,

@@ -1,5 +1,6 @@
 // Writes rows to a sheet.
 ghost use Rattle.std.specs.Prelude.{◌≡◌, ◌+◌, ◌<◌, ◌≤◌, length, take};
+ghost use Rattle.std.specs.Result.{result_err};
 ghost use Rattle.sheet.specs.Rows.{most_rows, Good, first_fault};
 ghost use Rattle.sheet.specs.Format.{sheet_bytes, six, stands as stands_in, bit_set_in, map_of, encode_row, encode};
 ghost use Rattle.sheet.specs.Reading.{no_map};
@@ -15,30 +16,30 @@ pub fn write(rows: &[Row], sheet: &mut [u8]) -> Result<usize, Refusal>
     ensures left { sheet.new ≡ (writing rows.now sheet.old).left }
     ensures meaning { Written rows.now sheet.old sheet.new result }
 {
-    match find_refusal(rows, sheet.len()) {
-        Some(refusal) => Err(refusal),
-        None => Ok(put_sheet(rows, sheet)),
-    }
+    check(rows, sheet.len())?;
+    Ok(put_sheet(rows, sheet))
 }
 
-// Why the rows cannot be written into so many bytes, if they cannot.
-fn find_refusal(rows: &[Row], room: usize) -> Option<Refusal>
-    ensures refusal { result ≡ write_refusal rows.now room }
-    ensures reason { Checked rows.now room result }
+// Whether the rows can be written into so many bytes, or why not.
+fn check(rows: &[Row], room: usize) -> Result<(), Refusal>
+    ensures refusal { result_err result ≡ write_refusal rows.now room }
+    ensures reason { Checked rows.now room (result_err result) }
 {
     if room < SHEET_BYTES {
-        return Some(Refusal::SheetShort);
+        return Err(Refusal::SheetShort);
     }
     if !is_count(rows.len()) {
-        return Some(Refusal::NoSheet);
+        return Err(Refusal::NoSheet);
     }
-    match find_fault(rows) {
-        Some(row) => Some(Refusal::NoRow(row)),
-        None => None,
+    // what is found is a row, and becomes a refusal only here
+    if let Some(row) = find_fault(rows) {
+        return Err(Refusal::NoRow(row));
     }
+    Ok(())
 }
 
-// The first row that is out of range, or out of order behind the one before it.
+// The first row that is out of range, or out of order behind the one before it. (A timetable's hops are searched by a like
+// loop. One function for both is no plainer: the contract of its closure is longer than the loop.)
 fn find_fault(rows: &[Row]) -> Option<u8>
     requires { length rows.now ≤ most_rows }
     ensures { result ≡ first_fault rows.now }
@@ -77,6 +78,7 @@ fn put_row(row: Row, sheet: &mut [u8], at: usize) -> usize
 {
     let bytes = six_bytes(row);
     sheet[at] = map_of(&bytes);
+    // counted, since only the bytes that stand take a place, and the end is the answer
     let mut end = at + 1;
     for byte in &bytes {
         if stands(*byte) {
@@ -87,7 +89,8 @@ fn put_row(row: Row, sheet: &mut [u8], at: usize) -> usize
     end
 }
 
-// The bytes that a row stands for: three of its arrival and three of its price, lowest first.
+// The bytes that a row stands for: three of its arrival and three of its price, lowest first. (No `From`, which all crates
+// would see: six bytes are the format's own matter.)
 fn six_bytes(row: Row) -> [u8; 6]
     ensures { result ≡ six row }
 {
@@ -101,8 +104,8 @@ fn map_of(bytes: &[u8; 6]) -> u8
     ensures { result ≡ map_of bytes.now }
 {
     let mut map = 0;
-    for place in (0..6).rev() {
-        map = with_bit(bytes[place], map);
+    for byte in bytes.iter().rev() {
+        map = with_bit(*byte, map);
     }
     map
 }

@@ -1,10 +1,10 @@
 -- Interval lines: their limits, and the hop at a place by division.
-use Rattle.std.proofs.Common.{◌≡◌, ℕ, zero, suc, ◌+◌, ◌-◌, ◌*◌, ◌/◌, ◌%◌, ◌<◌, ◌≤◌, Bool, true, false, ◌&&◌, eqb, leb, List, [], ◌∷◌, ◌++◌, map, length, get_or, take, drop, set, Some, None, sym, refl, ap, ◌∙◌, subst, ⊎_elim, suc-mul, mul_comm, arith, length-append}
+use Rattle.std.proofs.Common.{◌≡◌, ℕ, zero, suc, ◌+◌, ◌-◌, ◌*◌, ◌/◌, ◌%◌, ◌<◌, ◌≤◌, Bool, true, false, ◌&&◌, eqb, leb, List, [], ◌∷◌, ◌++◌, map, length, get_or, Some, None, sym, refl, ap, ◌∙◌, subst, ⊎_elim, suc-mul, mul_comm, arith, length-append}
 use lib.ListN.{length-map}
 use Rattle.std.proofs.lemmas.Nat.{mul-le, mul-add-lt, div-add-mod', div-mul-add, mod-mul-add, div_below, mod_below}
-use Rattle.std.proofs.lemmas.List.{at_drop_more, at_drop_all, get_or_append_left, get_or-append_right, get_or-map, get_or-take, take_all, take_more, take_more_set}
+use Rattle.std.proofs.lemmas.List.{get_or_append_left, get_or-append_right, get_or-map}
 use Rattle.std.proofs.lemmas.Option.{slice_get-get_or}
-use Rattle.std.proofs.lemmas.Bool.{and_parts, and_from, and_left, and_right, le-leb, leb-true, cases_lt}
+use Rattle.std.proofs.lemmas.Bool.{and_parts, and_from, le-leb, leb-true, cases_lt}
 use Rattle.timetable.specs.declared.hops.Hop.{Hop}
 use Rattle.timetable.specs.Line.{most_pattern, shortest_interval, longest_interval, most_trips, shifted, line, hops_of_first_trip, arriving_by, all_arrive, within_range, line_allowed}
 use Rattle.timetable.specs.LineFacts.{Passed, passed, line_trips}
@@ -12,21 +12,6 @@ use Rattle.timetable.specs.Rule.{day_end, keeps}
 use Rattle.timetable.specs.RuleFacts.{fit_at, fit_limits}
 use Rattle.timetable.specs.Table.{most_hops, trips_of, hop_at}
 use Rattle.timetable.proofs.Places.{hop_at_place, hop_at_end, hop_at_far}
-
--- A loop that tests each hop: F is the test of what is left.
-module _ (F : List Hop → Bool) (test : Hop → Bool) (one : (h : Hop) (hs : List Hop) → F (h ∷ hs) ≡ (test h && F hs)) (none : F [] ≡ true)
-    (hs : List Hop) (i : ℕ) (so_far : F (drop i hs) ≡ F hs) where
-  at : (d : Hop) (b : Bool) → i < length hs → test (get_or hs i d) ≡ b → (b && F (drop (i + 1) hs)) ≡ F hs
-  at d b h t = sym (at_drop_more F hs i d h ∙ one (get_or hs i d) (drop (i + 1) hs) ∙ ap (λ x. x && F (drop (i + 1) hs)) t) ∙ so_far
-
-  pub passes : (d : Hop) → i < length hs → test (get_or hs i d) ≡ true → F (drop (i + 1) hs) ≡ F hs
-  passes d h t = at d true h t
-
-  pub fails : (d : Hop) → i < length hs → test (get_or hs i d) ≡ false → false ≡ F hs
-  fails d h t = at d false h t
-
-  pub all_pass : length hs ≤ i → true ≡ F hs
-  all_pass h = sym (at_drop_all F hs i h ∙ none) ∙ so_far
 
 -- The last trip decides whether all arrive.
 arrive_sooner : (later sooner : ℕ) (hs : List Hop) → sooner ≤ later → arriving_by later hs ≡ true → arriving_by sooner hs ≡ true
@@ -104,91 +89,57 @@ runs_at [] k d h e = absurd (omega arith)
 runs_at (x ∷ hs) zero d h e = (and_parts x.runs _ (and_parts (x.runs && eqb x.trip 0) _ e).0).0
 runs_at (x ∷ hs) (suc k) d h e = runs_at hs k d (omega arith) (and_parts (x.runs && eqb x.trip 0) _ e).1
 
--- A line in a table of which the first `used` places count.
-module _ (xs : List Hop) (used interval trips : ℕ) (whole : length (take used xs) ≡ used) (ok : line_allowed (take used xs) interval trips ≡ true) where
-  facts : Passed (take used xs) interval trips
-  facts = passed (take used xs) interval trips ok
+-- A line inside its limits.
+module _ (xs : List Hop) (interval trips : ℕ) (ok : line_allowed xs interval trips ≡ true) where
+  facts : Passed xs interval trips
+  facts = passed xs interval trips ok
 
-  pub some : 1 ≤ used
-  some = let f = facts in omega arith
+  pub hops_few : length xs * trips ≤ 3200
+  hops_few = mul-le (length xs) trips 16 200 facts.few facts.limited
 
-  pub few : used ≤ most_pattern
-  few = let f = facts in omega arith
+  pub long : length (line xs interval trips) ≡ length xs * trips
+  long = length_line xs interval trips ∙ mul_comm trips (length xs)
 
-  pub hops_few : used * trips ≤ 3200
-  hops_few = mul-le used trips 16 200 few facts.limited
-
-  pub long : length (line (take used xs) interval trips) ≡ used * trips
-  long = length_line (take used xs) interval trips ∙ ap (λ m. trips * m) whole ∙ mul_comm trips used
-
-  pub trips_is : trips ≡ trips_of (line (take used xs) interval trips)
-  trips_is = let f = facts in let n = line_trips (take used xs) interval trips facts.some in omega arith
+  pub trips_is : trips ≡ trips_of (line xs interval trips)
+  trips_is = let f = facts in let n = line_trips xs interval trips facts.some in omega arith
 
   -- past the last trip's last hop, and before
-  pub past_end : (place : ℕ) → used * trips ≤ place → None ≡ hop_at (line (take used xs) interval trips) place
+  pub past_end : (place : ℕ) → length xs * trips ≤ place → None ≡ hop_at (line xs interval trips) place
   past_end place h =
-      ⊎_elim (λ l. hop_at_end (line (take used xs) interval trips) place l (let n = long in omega arith))
-      (λ l. hop_at_far (line (take used xs) interval trips) place l) (cases_lt place most_hops)
+      ⊎_elim (λ l. hop_at_end (line xs interval trips) place l (let n = long in omega arith))
+      (λ l. hop_at_far (line xs interval trips) place l) (cases_lt place most_hops)
 
-  pub within : (place : ℕ) → place < used * trips → (place / used < trips) × (place % used < used)
-  within place h = (div_below place used trips some (subst (λ m. place < m) (mul_comm used trips) h), mod_below place used some)
+  pub within : (place : ℕ) → place < length xs * trips → (place / length xs < trips) × (place % length xs < length xs)
+  within place h = (div_below place (length xs) trips facts.some (subst (λ m. place < m) (mul_comm (length xs) trips) h), mod_below place (length xs) facts.some)
 
   -- a hop of the pattern as a trip has it
-  module _ (trip column : ℕ) (on : trip < trips) (at : column < used) where
-    same_column : (d : Hop) → get_or (take used xs) column d ≡ get_or xs column d
-    same_column d = get_or-take used xs column d at
+  module _ (trip column : ℕ) (on : trip < trips) (at : column < length xs) (d : Hop) where
+    pub in_day : (get_or xs column d).arrival + trip * interval ≤ day_end
+    in_day = arrive_at (trip * interval) xs column d at (trip_arrives xs interval trips trip on facts.arrive)
 
-    pub in_day : (d : Hop) → (get_or xs column d).arrival + trip * interval ≤ day_end
-    in_day d = subst (λ x. x.arrival + trip * interval ≤ day_end) (same_column d)
-        (arrive_at (trip * interval) (take used xs) column d (omega arith)
-        (trip_arrives (take used xs) interval trips trip on facts.arrive))
+    pub forward : (get_or xs column d).departure < (get_or xs column d).arrival
+    forward =
+        (fit_limits (get_or xs column d)
+        (fit_at None xs column (get_or xs column d) facts.kept (slice_get-get_or xs column d at))
+        (runs_at xs column d at facts.first)).forward
 
-    pub forward : (d : Hop) → (get_or xs column d).departure < (get_or xs column d).arrival
-    forward d = subst (λ x. x.departure < x.arrival) (same_column d)
-        (let c : column < length (take used xs) = omega arith in
-        (fit_limits (get_or (take used xs) column d)
-        (fit_at None (take used xs) column (get_or (take used xs) column d) facts.kept (slice_get-get_or (take used xs) column d c))
-        (runs_at (take used xs) column d c facts.first)).forward)
-
-    pub hop_is : (d : Hop) (place : ℕ) → trip ≡ place / used → column ≡ place % used → Some (shifted trip (trip * interval) (get_or xs column d)) ≡ hop_at (line (take used xs) interval trips) place
-    hop_is d place t c =
+    pub hop_is : (place : ℕ) → trip ≡ place / length xs → column ≡ place % length xs → Some (shifted trip (trip * interval) (get_or xs column d)) ≡ hop_at (line xs interval trips) place
+    hop_is place t c =
         let n = long in
         let few_hops = hops_few in
-        let inside : place / used * used + place % used < used * trips = mul-add-lt (place / used) used (place % used) trips (omega arith) (omega arith) in
-        let whole_place : place / used * used + place % used ≡ place = div-add-mod' place used in
-        let below : place < used * trips = omega arith in
-        ap (λ x. Some (shifted trip (trip * interval) x)) (sym (same_column d))
-        ∙ (λ i. Some (shifted (t i) (t i * interval) (get_or (take used xs) (c i) d)))
-        ∙ sym (ap Some (line_at (take used xs) interval trips place d facts.some (let e = length_line (take used xs) interval trips in omega arith)
-        ∙ ap (λ w. shifted (place / w) (place / w * interval) (get_or (take used xs) (place % w) d)) whole))
-        ∙ hop_at_place (line (take used xs) interval trips) place d (omega arith) (omega arith)
+        let inside : place / length xs * length xs + place % length xs < length xs * trips = mul-add-lt (place / length xs) (length xs) (place % length xs) trips (omega arith) (omega arith) in
+        let whole_place : place / length xs * length xs + place % length xs ≡ place = div-add-mod' place (length xs) in
+        let below : place < length xs * trips = omega arith in
+        (λ i. Some (shifted (t i) (t i * interval) (get_or xs (c i) d)))
+        ∙ sym (ap Some (line_at xs interval trips place d facts.some (let e = length_line xs interval trips in omega arith)))
+        ∙ hop_at_place (line xs interval trips) place d (omega arith) (omega arith)
 
--- Opening a line.
-pub bad_interval : (pattern : List Hop) (interval trips : ℕ) → within_range shortest_interval longest_interval interval ≡ false → false ≡ line_allowed pattern interval trips
-bad_interval pattern interval trips e = sym (and_right (within_range 1 most_pattern (length pattern)) _ (and_left (within_range shortest_interval longest_interval interval) _ e))
-
-pub bad_trips : (pattern : List Hop) (interval trips : ℕ) → within_range 1 most_trips trips ≡ false → false ≡ line_allowed pattern interval trips
-bad_trips pattern interval trips e =
-    sym (and_right (within_range 1 most_pattern (length pattern)) _ (and_right (within_range shortest_interval longest_interval interval) _ (and_left (within_range 1 most_trips trips) _ e)))
-
-pub allowed_is : (pattern : List Hop) (interval trips : ℕ) (size kept first arrive : Bool) →
-    within_range shortest_interval longest_interval interval ≡ true → within_range 1 most_trips trips ≡ true →
-    size ≡ within_range 1 most_pattern (length pattern) → kept ≡ keeps pattern → first ≡ hops_of_first_trip pattern → arrive ≡ arriving_by ((trips - 1) * interval) pattern →
-    (size && (kept && (first && arrive))) ≡ line_allowed pattern interval trips
-allowed_is pattern interval trips size kept first arrive i t s k f a =
-    let some_trip = leb-true 1 trips (and_parts (leb 1 trips) _ t).0 in
-    let rest : (kept && (first && arrive)) ≡ (keeps pattern && (hops_of_first_trip pattern && all_arrive pattern interval trips)) =
-    ap (λ b. b && (first && arrive)) k ∙ ap (λ b. keeps pattern && (b && arrive)) f
-    ∙ ap (λ b. keeps pattern && (hops_of_first_trip pattern && b)) (a ∙ last_decides pattern interval trips some_trip) in
-    ap (λ b. b && (kept && (first && arrive))) s
-    ∙ ap (λ b. within_range 1 most_pattern (length pattern) && b) rest
-    ∙ ap (λ b. within_range 1 most_pattern (length pattern) && (b && (keeps pattern && (hops_of_first_trip pattern && all_arrive pattern interval trips)))) (sym t)
-    ∙ ap (λ b. within_range 1 most_pattern (length pattern) && (b && (within_range 1 most_trips trips && (keeps pattern && (hops_of_first_trip pattern && all_arrive pattern interval trips))))) (sym i)
-
-pub copied : (own pattern : List Hop) (place : ℕ) → take place own ≡ take place pattern → place ≡ length pattern → take (length pattern) own ≡ pattern
-copied own pattern place e at = ap (λ n. take n own) (sym at) ∙ e ∙ take_all place pattern (omega arith)
-
-pub copies : (own pattern : List Hop) (place : ℕ) (d : Hop) → take place own ≡ take place pattern → place < length pattern → place < length own →
-    take (place + 1) (set own place (get_or pattern place d)) ≡ take (place + 1) pattern
-copies own pattern place d e h room =
-    take_more_set own place (get_or pattern place d) room ∙ ap (λ xs. xs ++ get_or pattern place d ∷ []) e ∙ sym (take_more pattern place d h)
+-- where all else is within limits, the last trip decides
+pub allowed_decided : (pattern : List Hop) (interval trips : ℕ) →
+    (within_range 1 most_pattern (length pattern) && (within_range shortest_interval longest_interval interval && within_range 1 most_trips trips)) ≡ true →
+    keeps pattern ≡ true → hops_of_first_trip pattern ≡ true → arriving_by ((trips - 1) * interval) pattern ≡ line_allowed pattern interval trips
+allowed_decided pattern interval trips r k f =
+    let a = and_parts (within_range 1 most_pattern (length pattern)) _ r in
+    let b = and_parts (within_range shortest_interval longest_interval interval) _ a.1 in
+    last_decides pattern interval trips (leb-true 1 trips (and_parts (leb 1 trips) _ b.1).0)
+    ∙ sym (simp (a.0, b.0, b.1, k, f))

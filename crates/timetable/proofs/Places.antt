@@ -1,11 +1,10 @@
 -- What stands at a place, and last, in a list of hops.
-use Rattle.std.proofs.Common.{◌≡◌, ℕ, ◌+◌, ◌-◌, ◌<◌, ◌≤◌, false, ltb, List, [], ◌∷◌, length, get_or, Some, None, sym, refl, ap, ◌∙◌, arith}
+use Rattle.std.proofs.Common.{◌≡◌, ℕ, ◌-◌, ◌<◌, ◌≤◌, false, ltb, List, [], ◌∷◌, length, get_or, Some, None, sym, refl, ap, ◌∙◌, arith}
 use Rattle.std.specs.List.{slice_get}
 use Rattle.std.proofs.lemmas.Option.{slice_get-get_or, slice_get_past}
 use Rattle.std.proofs.lemmas.Bool.{lt-ltb, le-ltb, cond-true, cond-false}
-use Rattle.std.proofs.lemmas.List.{nil_from_length}
 use Rattle.timetable.specs.declared.hops.Hop.{Hop}
-use Rattle.timetable.specs.Table.{most_hops, hop_at, last_after, trips_upto}
+use Rattle.timetable.specs.Table.{most_hops, hop_at, last_after}
 
 -- what a read past the end would give
 abbrev pub blank : Hop
@@ -25,12 +24,6 @@ last_is : (g : Hop) (hs : List Hop) (d : Hop) → last_after (Some g) hs ≡ Som
 last_is g [] d = refl
 last_is g (h ∷ hs) d = last_is h hs d
 
-pub last_place : (hs : List Hop) (d : Hop) → 0 < length hs → last_after None hs ≡ Some (get_or hs (length hs - 1) d)
-last_place [] d h = absurd (omega arith)
-last_place (g ∷ hs) d h = last_is g hs d ∙ ap (λ n. Some (get_or (g ∷ hs) n d)) (omega arith)
-
-pub trips_last : (hs : List Hop) (d : Hop) → 0 < length hs → (get_or hs (length hs - 1) d).trip + 1 ≡ trips_upto (last_after None hs)
-trips_last hs d h = ap trips_upto (sym (last_place hs d h))
-
-pub trips_none : (hs : List Hop) → length hs ≡ 0 → 0 ≡ trips_upto (last_after None hs)
-trips_none hs e = ap (λ l. trips_upto (last_after None l)) (sym (nil_from_length hs e))
+pub last_read : (hs : List Hop) → last_after None hs ≡ slice_get hs (length hs - 1)
+last_read [] = refl
+last_read (g ∷ hs) = last_is g hs blank ∙ sym (slice_get-get_or (g ∷ hs) (length hs) blank (omega arith)) ∙ ap (slice_get (g ∷ hs)) (omega arith)

@@ -1,7 +1,7 @@
 -- Interval lines: one pattern of hops, again and again at an interval.
 -- Assumes nothing.
-use Rattle.std.specs.Prelude.{◌≡◌, ℕ, zero, suc, ◌+◌, ◌*◌, ◌<◌, ◌≤◌, Bool, true, false, cond, ◌&&◌, List, [], ◌∷◌, ◌++◌, map, length, Some, Ok, Err, Result, ◌==◌, nat_le}
-use Rattle.std.specs.List.{slice_get}
+use Rattle.std.specs.Prelude.{◌≡◌, ℕ, zero, suc, ◌+◌, ◌*◌, ◌<◌, ◌≤◌, Bool, true, false, cond, ◌&&◌, List, [], ◌++◌, map, length, Some, Ok, Err, Result, ◌==◌, nat_le}
+use Rattle.std.specs.List.{list_all, slice_get}
 use Rattle.timetable.specs.declared.hops.Hop.{Hop}
 use Rattle.timetable.specs.declared.refusals.Refusal.{Refusal}
 use Rattle.timetable.specs.declared.refusals.Refusal.TheVariants.{IntervalLimits}
@@ -35,13 +35,11 @@ line pattern interval (suc n) = line pattern interval n ++ map (shifted n (n * i
 
 -- each hop runs and is of trip 0
 abbrev pub hops_of_first_trip : List Hop → Bool
-hops_of_first_trip [] = true
-hops_of_first_trip (h ∷ hs) = (h.runs && h.trip == 0) && hops_of_first_trip hs
+hops_of_first_trip hs = list_all (λ (h : Hop). h.runs && h.trip == 0) hs
 
 -- each hop arrives by the day's end, so much later
 abbrev pub arriving_by : ℕ → List Hop → Bool
-arriving_by later [] = true
-arriving_by later (h ∷ hs) = nat_le (h.arrival + later) day_end && arriving_by later hs
+arriving_by later hs = list_all (λ (h : Hop). nat_le (h.arrival + later) day_end) hs
 
 -- each hop of each of n trips does
 abbrev pub all_arrive : List Hop → ℕ → ℕ → Bool

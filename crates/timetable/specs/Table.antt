@@ -85,6 +85,6 @@ Searched hs None = Rule hs
 Searched hs (Some place) = NotOpened hs (cause (BrokenRule place))
 
 -- what the answer to opening says of the hops: they keep the rule, or the cause stands
-abbrev pub Opened : List Hop → Result (Unit {0}) Refusal → Type 0
+abbrev pub Opened : {X : Type 0} → List Hop → Result X Refusal → Type 0
 Opened hs (Ok done) = Rule hs
 Opened hs (Err refusal) = NotOpened hs (cause refusal)

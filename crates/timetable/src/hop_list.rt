@@ -1,7 +1,6 @@
-ghost use Rattle.std.specs.Prelude.{◌≡◌, true, [], None};
+ghost use Rattle.std.specs.Prelude.{◌≡◌, true, [], None, Some};
 ghost use Rattle.timetable.specs.Rule.{keeps};
-ghost use Rattle.timetable.specs.Table.{last_after, trips_upto, open_list, told, left, Opened};
-ghost use Rattle.std.specs.List.{slice_get};
+ghost use Rattle.timetable.specs.Table.{last_after, trips_upto, open_list, told, left, meant, Opened};
 
 use crate::hops::Hop;
 use crate::refusals::Refusal;
@@ -23,19 +22,25 @@ impl<'a> HopList<'a> {
         HopList { hops: &[] }
     }
 
+    // A list of hops that keep the timetable rule.
+    pub fn over(hops: &'a [Hop]) -> Result<HopList<'a>, Refusal>
+        ensures answer { meant (λ l. l.hops.now) result ≡ open_list hops.now }
+        ensures rule { Opened hops.now result }
+    {
+        match first_break(hops) {
+            Some(place) => Err(Refusal::BrokenRule(place)),
+            None => Ok(HopList { hops }),
+        }
+    }
+
     // Stands for the hops from now on if they keep the timetable rule; else it is left as it was.
     pub fn open(&mut self, hops: &'a [Hop]) -> Result<(), Refusal>
         ensures answer { result ≡ told (open_list hops.now) }
         ensures list { self.new.hops.now ≡ left self.old.hops.now (open_list hops.now) }
         ensures rule { Opened hops.now result }
     {
-        match first_break(hops) {
-            Some(place) => Err(Refusal::BrokenRule(place)),
-            None => {
-                self.hops = hops;
-                Ok(())
-            }
-        }
+        *self = HopList::over(hops)?;
+        Ok(())
     }
 }
 
@@ -56,26 +61,19 @@ impl<'a> Timetable for HopList<'a> {
         if place >= MOST_HOPS {
             return None;
         }
-        hop_in(self.hops, place as usize)
+        self.hops.get(place as usize).copied()
     }
+}
+
+fn trips_through(last: Hop) -> usize
+    ensures { result ≡ trips_upto (Some last) }
+{
+    last.trip as usize + 1
 }
 
 // One more than the number of the last trip; trips are numbered from 0 without a gap.
 fn trips_in(hops: &[Hop]) -> usize
     ensures { result ≡ trips_upto (last_after None hops.now) }
 {
-    if hops.is_empty() {
-        return 0;
-    }
-    hops[hops.len() - 1].trip as usize + 1
-}
-
-// The hop at a place, or nothing past the end.
-fn hop_in(hops: &[Hop], place: usize) -> Option<Hop>
-    ensures { result ≡ slice_get hops.now place }
-{
-    if place >= hops.len() {
-        return None;
-    }
-    Some(hops[place])
+    hops.last().copied().map_or(0, trips_through)
 }

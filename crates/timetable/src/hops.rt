@@ -1,5 +1,5 @@
 // One vehicle from one stop to the next. Times are seconds of the service day.
-#[derive(Clone, Copy)]
+#[derive(Clone, Copy, Debug, PartialEq, Eq)]
 pub struct Hop {
     pub trip: u32,
     pub from: u32,

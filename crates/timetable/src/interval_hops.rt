@@ -1,8 +1,9 @@
-ghost use Rattle.std.specs.Prelude.{◌≡◌, ◌+◌, ◌-◌, ◌*◌, ◌^◌, ◌<◌, ◌≤◌, true, length, take};
-ghost use Rattle.timetable.specs.Line.{most_pattern, longest_interval, most_trips, shifted as shifted_hop, line, hops_of_first_trip, arriving_by, within_range, line_allowed, open_line, Tested, LineOpened};
+ghost use Rattle.std.specs.Prelude.{◌≡◌, ◌+◌, ◌-◌, ◌*◌, ◌^◌, ◌<◌, ◌≤◌, ◌==◌, ◌&&◌, nat_le, true, length};
+ghost use Rattle.short_list.specs.Items.{items};
+ghost use Rattle.timetable.specs.Line.{most_pattern, shortest_interval, longest_interval, most_trips, shifted as shifted_hop, line, hops_of_first_trip, arriving_by, within_range, line_allowed, open_line, LineOpened};
 ghost use Rattle.timetable.specs.LineFacts.{allowed_keeps};
 ghost use Rattle.timetable.specs.LineHops.{hops_of, Reached, StandsAt};
-ghost use Rattle.timetable.specs.Rule.{keeps};
+ghost use Rattle.timetable.specs.Rule.{day_end, keeps};
 ghost use Rattle.timetable.specs.Table.{trips_of, meant};
 
 use crate::hops::Hop;
@@ -12,6 +13,7 @@ use crate::interval_line::{
 use crate::refusals::Refusal;
 use crate::rule::{DAY_END, first_break};
 use crate::tables::Timetable;
+use short_list::ShortList;
 
 impl IntervalLine {
     // Opens exactly the lines inside their limits.
@@ -22,24 +24,11 @@ impl IntervalLine {
         if !is_allowed(pattern, interval, trips) {
             return Err(Refusal::IntervalLimits);
         }
-        Ok(IntervalLine::over(pattern, interval, trips))
-    }
-
-    // The line of a pattern, inside its limits.
-    fn over(pattern: &[Hop], interval: u32, trips: u32) -> IntervalLine
-        requires { line_allowed pattern.now interval trips ≡ true }
-        ensures { hops_of result ≡ line pattern.now interval trips }
-    {
-        let mut own = [pattern[0]; MOST_PATTERN];
-        for place in 0..pattern.len() {
-            own[place] = pattern[place];
-        }
-        IntervalLine {
-            pattern: own,
-            used: pattern.len(),
+        Ok(IntervalLine {
+            pattern: ShortList::copy_of(pattern[0], pattern).unwrap(),
             interval,
             trips,
-        }
+        })
     }
 
     // How many hops all its trips have.
@@ -47,7 +36,7 @@ impl IntervalLine {
         ensures hops { result ≡ length (hops_of self.now) }
         ensures few { result ≤ most_pattern * most_trips }
     {
-        self.used as u32 * self.trips
+        self.pattern.len() as u32 * self.trips
     }
 
     // How many trips it has.
@@ -67,17 +56,21 @@ impl IntervalLine {
     // A hop of the pattern as a trip has it.
     fn hop_of(&self, trip: u32, column: usize) -> Hop
         requires trip { trip < self.now.trips }
-        requires column { column < self.now.used }
+        requires column { column < length (items self.now.pattern) }
         ensures { StandsAt self.now trip column result }
     {
-        shifted(self.pattern[column], trip, later(trip, self.interval))
+        shifted(
+            self.pattern.as_slice()[column],
+            trip,
+            later(trip, self.interval),
+        )
     }
 }
 
 impl Timetable for IntervalLine {
     ghost hops = { λ l. hops_of l };
 
-    ghost rule = { λ l. allowed_keeps (take l.used l.pattern) l.interval l.trips l.allowed };
+    ghost rule = { λ l. allowed_keeps (items l.pattern) l.interval l.trips l.allowed };
 
     fn count(&self) -> u32 {
         self.hop_count()
@@ -91,34 +84,29 @@ impl Timetable for IntervalLine {
         if !self.reaches(place) {
             return None;
         }
-        let used = self.used as u32;
+        let used = self.pattern.len() as u32;
         Some(self.hop_of(place / used, (place % used) as usize))
     }
 }
 
-// Whether a line is inside its limits.
-fn is_allowed(pattern: &[Hop], interval: u32, trips: u32) -> bool
-    ensures test { result ≡ line_allowed pattern.now interval trips }
-    ensures limits { Tested pattern.now interval trips result }
+fn is_within_ranges(hops: usize, interval: u32, trips: u32) -> bool
+    ensures { result ≡ (within_range 1 most_pattern hops && (within_range shortest_interval longest_interval interval && within_range 1 most_trips trips)) }
 {
-    if !in_range(
-        SHORTEST_INTERVAL as usize,
-        LONGEST_INTERVAL as usize,
-        interval as usize,
-    ) {
-        return false;
-    }
-    if !in_range(1, MOST_TRIPS as usize, trips as usize) {
-        return false;
-    }
-    in_range(1, MOST_PATTERN, pattern.len())
-        & (keeps_rule(pattern) & (of_first_trip(pattern) & last_arrives(pattern, interval, trips)))
+    (1..=MOST_PATTERN).contains(&hops)
+        && (SHORTEST_INTERVAL..=LONGEST_INTERVAL).contains(&interval)
+        && (1..=MOST_TRIPS).contains(&trips)
 }
 
-fn in_range(low: usize, high: usize, number: usize) -> bool
-    ensures { result ≡ within_range low high number }
+// Whether a line is inside its limits. (The three are an `IntervalLine` once they are; a second struct for before is no
+// plainer.)
+#[tactic(auto, using(crate::proofs::Lines::allowed_decided))]
+fn is_allowed(pattern: &[Hop], interval: u32, trips: u32) -> bool
+    ensures { result ≡ line_allowed pattern.now interval trips }
 {
-    (low <= number) & (number <= high)
+    if !is_within_ranges(pattern.len(), interval, trips) {
+        return false;
+    }
+    keeps_rule(pattern) && of_first_trip(pattern) && last_arrives(pattern, interval, trips)
 }
 
 fn keeps_rule(hops: &[Hop]) -> bool
@@ -127,19 +115,17 @@ fn keeps_rule(hops: &[Hop]) -> bool
     first_break(hops).is_none()
 }
 
+fn is_of_first_trip(hop: &Hop) -> bool
+    ensures { result ≡ (hop.now.runs && hop.now.trip == 0) }
+{
+    hop.runs && hop.trip == 0
+}
+
 // Whether each hop runs and is of trip 0.
 fn of_first_trip(hops: &[Hop]) -> bool
     ensures { result ≡ hops_of_first_trip hops.now }
 {
-    for hop in hops {
-        if !hop.runs {
-            return false;
-        }
-        if hop.trip != 0 {
-            return false;
-        }
-    }
-    true
+    hops.iter().all(|hop| is_of_first_trip(hop))
 }
 
 // Whether the last trip arrives by the day's end. No trip is later than the last.
@@ -152,16 +138,17 @@ fn last_arrives(pattern: &[Hop], interval: u32, trips: u32) -> bool
     arrive_by(pattern, later(trips - 1, interval))
 }
 
+fn arrives_by(hop: &Hop, seconds: u32) -> bool
+    ensures { result ≡ nat_le (hop.now.arrival + seconds) day_end }
+{
+    hop.arrival as u64 + seconds as u64 <= DAY_END as u64
+}
+
 // Whether each hop arrives by the day's end, so many seconds later.
 fn arrive_by(hops: &[Hop], seconds: u32) -> bool
     ensures { result ≡ arriving_by seconds hops.now }
 {
-    for hop in hops {
-        if hop.arrival as u64 + seconds as u64 > DAY_END as u64 {
-            return false;
-        }
-    }
-    true
+    hops.iter().all(|hop| arrives_by(hop, seconds))
 }
 
 // How much later than the first a trip runs.
@@ -179,9 +166,10 @@ fn shifted(hop: Hop, trip: u32, seconds: u32) -> Hop
     requires arrives { hop.arrival + seconds < 2 ^ 32 }
     ensures { result ≡ shifted_hop trip seconds hop }
 {
-    let mut hop = hop;
-    hop.trip = trip;
-    hop.departure += seconds;
-    hop.arrival += seconds;
-    hop
+    Hop {
+        trip,
+        departure: hop.departure + seconds,
+        arrival: hop.arrival + seconds,
+        ..hop
+    }
 }

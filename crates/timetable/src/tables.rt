@@ -33,9 +33,5 @@ pub trait Timetable {
 pub(crate) fn held(count: usize) -> u32
     ensures { result ≡ held_at count }
 {
-    if count < MOST_HOPS as usize {
-        count as u32
-    } else {
-        MOST_HOPS
-    }
+    count.min(MOST_HOPS as usize) as u32
 }

@@ -4,7 +4,7 @@ use Rattle.std.proofs.lemmas.Bool.{true≢false}
 use Rattle.sheet.specs.Format.{stands, map_of, standing, packed, encode_row}
 use Rattle.sheet.specs.Outcome.{pasted}
 use Rattle.sheet.proofs.Packing.{standing_le}
-use Rattle.sheet.proofs.Pasting.{pasted_none, pasted_one, pasted_more, standing_push, standing_push_zero}
+use Rattle.sheet.proofs.Pasting.{pasted_one, pasted_more, standing_push, standing_push_zero}
 use Rattle.sheet.proofs.writing.put_row.Goals as goal
 use Rattle.sheet.proofs.writing.put_row.Goals.{then-stands, else-stands}
 
@@ -20,14 +20,8 @@ stands_none (suc b) e = absurd (true≢false (sym e))
 few : (i : ℕ) (bytes : List ℕ) → length (standing (take i bytes)) ≤ i
 few i bytes = omega (arith, standing_le (take i bytes), length-take i bytes)
 
-pub loop-byte-init : goal.loop-byte-init
-loop-byte-init c = (omega arith, pasted_none (c.args.at + 1) _)
-
 pub bounds-sheet-end : goal.bounds-sheet-end
 bounds-sheet-end c = omega (arith, few c.loop-byte.byte-index c.six_bytes-bytes.result, length-set c.args.sheet.now c.args.at c.map_of.result)
-
-pub overflow_add-end-then-stands : goal.overflow_add-end-then-stands
-overflow_add-end-then-stands c = omega (arith, few c.loop-byte.byte-index c.six_bytes-bytes.result, length-set c.args.sheet.now c.args.at c.map_of.result)
 
 -- one turn: `start` is the sheet as the loop began, and `sheet` as the turn begins
 module _ (bytes start sheet : List ℕ) (at end i : ℕ) (is : end ≡ at + 1 + length (standing (take i bytes))) (was : sheet ≡ pasted (at + 1) (standing (take i bytes)) start)

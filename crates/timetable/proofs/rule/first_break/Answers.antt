@@ -1,19 +1,12 @@
-use Rattle.std.proofs.Common.{refl}
-use Rattle.timetable.proofs.Breaks.{goes_on, breaks, ends}
+use Rattle.timetable.proofs.Breaks.{breaks, ends}
 use Rattle.timetable.proofs.Opens.{searched}
 use Rattle.timetable.proofs.rule.first_break.Goals as goal
-
-pub loop-place-init : goal.loop-place-init
-loop-place-init c = refl
 
 pub returns-then-not-may_follow : goal.returns-then-not-may_follow
 returns-then-not-may_follow c =
     let hops = c.args.hops.now in
     let e = breaks hops c.loop-place.before c.loop-place.place c.loop-place.invariant _ c.loop-place-test.true c.if-not-may_follow.ensures in
     record { place = e; rule = searched hops _ e }
-
-pub loop-place-preserved : goal.loop-place-preserved
-loop-place-preserved c = goes_on c.args.hops.now c.loop-place.before c.loop-place.place c.loop-place.invariant _ c.loop-place-test.true c.if-not-may_follow.ensures
 
 pub returns : goal.returns
 returns c =

@@ -1,0 +1,158 @@
+ghost use Rattle.std.specs.Prelude.{◌≡◌, ℕ, ◌+◌};
+ghost use Rattle.journeys.specs.Runs.{overlay};
+ghost use Rattle.journeys.specs.Scan.{passed, emptied, kept, riding, pass_hop as pass_hop_run, pass_hops as pass_hops_run, round as round_run, rounds as rounds_run, scan_for};
+ghost use Rattle.scan.specs.Filling.{filled, ran};
+ghost use Rattle.scan.specs.Stages.{stage, stage_of, room_of, Carried};
+
+use crate::boarding::board_all;
+use crate::filled::Filled;
+use crate::offering::offer;
+use crate::riding::{alight_all, ride_all};
+use crate::turn::Turn;
+use crate::walking::walks;
+use journeys::{Fare, Footpath, Full, Label, Passenger, Question};
+use timetable::{Hop, Timetable};
+
+// What a scan reads beside the question.
+#[derive(Drop)]
+pub(crate) struct Given<'a, T, F> {
+    pub(crate) timetable: &'a T,
+    pub(crate) fare: &'a F,
+    pub(crate) paths: &'a [Footpath],
+}
+
+// A scan under way: the labels written, those aboard, and the trip that they are on. It is lent its
+// lists: of lists that it owned, nothing was known once it was over.
+#[derive(Drop)]
+pub(crate) struct Ride<'r, 'a, 'b, S> {
+    labels: &'r mut Filled<'a, Label<S>>,
+    aboard: &'r mut Filled<'b, Passenger<S>>,
+    trip: u32,
+}
+
+// Round 0 passes no hop, every other round all of them.
+fn hops_in_round<T: Timetable>(timetable: &T, round: u32) -> u32
+    ensures { result ≡ passed (T.Timetable.hops timetable.now) round }
+{
+    if round == 0 { 0 } else { timetable.count() }
+}
+
+impl<'r, 'a, 'b, S: Copy> Ride<'r, 'a, 'b, S> {
+    // Nobody is aboard any more.
+    fn empty(&mut self, trip: u32)
+        ensures run { stage_of self.new ≡ emptied trip (stage_of self.old) }
+        ensures carried { Carried self.old self.new }
+    {
+        self.aboard.clear();
+        self.trip = trip;
+    }
+
+    // A new trip lets all off.
+    fn keep(&mut self, hop: &Hop)
+        ensures run { stage_of self.new ≡ kept hop.now (stage_of self.old) }
+        ensures carried { Carried self.old self.new }
+    {
+        if self.trip != hop.trip {
+            self.empty(hop.trip);
+        }
+    }
+
+    // A hop that runs: labels board, all aboard ride on, and all aboard are offered.
+    fn ride<F: Fare<State = S>>(&mut self, fare: &F, turn: &Turn) -> Result<(), Full>
+        ensures run { riding (F.Fare.model fare.now) (room_of self.old) turn.now.round turn.now.place turn.now.hop (stage_of self.old) ≡ ran result (stage_of self.new) }
+        ensures carried { Carried self.old self.new }
+    {
+        self.keep(&turn.hop);
+        board_all(fare, turn, self.labels.as_slice(), self.aboard)?;
+        ride_all(fare, &turn.hop, self.aboard);
+        alight_all(fare, turn, self.aboard.as_slice(), self.labels)
+    }
+
+    // One that does not run lets all off.
+    fn pass_hop<F: Fare<State = S>>(&mut self, fare: &F, turn: &Turn) -> Result<(), Full>
+        ensures run { pass_hop_run (F.Fare.model fare.now) (room_of self.old) turn.now.round turn.now.place turn.now.hop (stage_of self.old) ≡ ran result (stage_of self.new) }
+        ensures carried { Carried self.old self.new }
+    {
+        if !turn.hop.runs {
+            self.empty(turn.hop.trip);
+            return Ok(());
+        }
+        self.ride(fare, turn)
+    }
+
+    // Passes the hops of a round, which begins with nobody aboard.
+    #[tactic(auto, using(crate::proofs::Stages::carried_then))]
+    fn pass_hops<T: Timetable, F: Fare<State = S>>(
+        &mut self,
+        given: &Given<T, F>,
+        round: u32,
+    ) -> Result<(), Full>
+        ensures run { pass_hops_run (F.Fare.model given.now.fare.now) (room_of self.old) (T.Timetable.hops given.now.timetable.now) round (stage_of self.old) (passed (T.Timetable.hops given.now.timetable.now) round) ≡ ran result (stage_of self.new) }
+        ensures carried { Carried self.old self.new }
+    {
+        self.empty(0);
+        // by place, since a timetable is no list: it answers one hop at a time
+        for place in 0..hops_in_round(given.timetable, round) {
+            let Some(hop) = given.timetable.hop(place) else {
+                continue;
+            };
+            self.pass_hop(given.fare, &Turn { round, place, hop })?;
+        }
+        Ok(())
+    }
+
+    // A round: its hops, and then the footpaths from the labels that it has reached.
+    fn round<T: Timetable, F: Fare<State = S>>(
+        &mut self,
+        given: &Given<T, F>,
+        round: u32,
+    ) -> Result<(), Full>
+        ensures run { round_run (F.Fare.model given.now.fare.now) (room_of self.old) (T.Timetable.hops given.now.timetable.now) given.now.paths.now round (stage_of self.old) ≡ ran result (stage_of self.new) }
+        ensures carried { Carried self.old self.new }
+    {
+        self.pass_hops(given, round)?;
+        walks(given.fare, given.paths, round, self.labels)
+    }
+
+    // Round 0 and `limit` rounds more.
+    #[tactic(auto, using(crate::proofs::Stages::carried_then))]
+    fn rounds<T: Timetable, F: Fare<State = S>>(
+        &mut self,
+        given: &Given<T, F>,
+        limit: u32,
+    ) -> Result<(), Full>
+        ensures run { rounds_run (F.Fare.model given.now.fare.now) (room_of self.old) (T.Timetable.hops given.now.timetable.now) given.now.paths.now (stage_of self.old) (limit + 1) ≡ ran result (stage_of self.new) }
+        ensures carried { Carried self.old self.new }
+    {
+        // a round is its number, and no element of a list
+        for round in 0..=limit {
+            self.round(given, round)?;
+        }
+        Ok(())
+    }
+}
+
+// Writes the origin, and then runs round 0 and as many rounds as the question asks for.
+pub(crate) fn scan<T: Timetable, F: Fare>(
+    given: &Given<T, F>,
+    question: &Question,
+    labels: &mut Filled<Label<F::State>>,
+    aboard: &mut Filled<Passenger<F::State>>,
+) -> Result<(), Full>
+    requires unwritten { labels.old.used ≡ 0 }
+    requires nobody { aboard.old.used ≡ 0 }
+    ensures run { (trip : ℕ) × (scan_for (F.Fare.model given.now.fare.now) (T.Timetable.hops given.now.timetable.now) given.now.paths.now question.now labels.old.places.now aboard.old.places.now ≡ ran result (stage trip labels.new aboard.new)) }
+    ensures labels { labels.new.places.now ≡ overlay (filled labels.new) labels.old.places.now }
+    ensures same_labels { labels.new.places.ghost_name ≡ labels.old.places.ghost_name }
+    ensures same_aboard { aboard.new.places.ghost_name ≡ aboard.old.places.ghost_name }
+{
+    let state = given.fare.start(question.origin);
+    let origin = Label::at_origin(question.origin, question.departure, state);
+    offer(given.fare, origin, labels)?;
+    let mut ride = Ride {
+        labels,
+        aboard,
+        trip: 0,
+    };
+    ride.rounds(given, question.rides)
+}
