@@ -50,6 +50,7 @@ const NO_ZONED: Zoned = FareState {
     weight: ZoneSet { members: 0 },
 };
 
+// `day_examples` has one, too: a public function of a library for it, with a contract and an edit, is no plainer.
 fn blank_passenger<S>(state: S) -> Passenger<S> {
     Passenger {
         state,

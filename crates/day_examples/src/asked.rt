@@ -19,6 +19,7 @@ pub(crate) const BLANK_LEG: Leg = Leg {
     last: 0,
 };
 
+// `cases` has one, too: a public function of a library for it, with a contract and an edit, is no plainer.
 pub(crate) fn blank_passenger<S>(state: S) -> Passenger<S> {
     Passenger {
         state,

@@ -6,6 +6,8 @@
 // work fares out by hand and try every limit of a table.
 mod every_kind;
 #[cfg(test)]
+mod given;
+#[cfg(test)]
 mod tests;
 #[cfg(test)]
 mod worked;

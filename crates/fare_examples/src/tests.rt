@@ -1,39 +1,13 @@
-use fares::{Gauges, Ladder, Measure, Surcharge, Tariff, change, start, update};
+use crate::given::{NIGHT, gauges, rule, table};
+use fares::{Ladder, Measure, Surcharge, Tariff, change, start, update};
 use measures::Zones;
 use rule_table::{Refusal, Rule, RuleTable};
 use std::test::Fail;
 
-const EVERY_EVENT: u16 = 0xffff;
-
-const NIGHT: u8 = 2;
-
 const FIRST_CLASS: u8 = 3;
 
-fn at_zones(zones: u32) -> Gauges {
-    Gauges {
-        metres: 0,
-        stops: 0,
-        zones,
-        level: 0,
-    }
-}
-
-fn rule(ticket: u8, target: u8, events: u16, zones: u32) -> Rule {
-    Rule {
-        ticket,
-        target,
-        events,
-        minima: at_zones(zones),
-    }
-}
-
 fn ferry_table() -> Result<RuleTable, Refusal> {
-    let rules = [
-        rule(0, 1, EVERY_EVENT, 2),
-        rule(0, 2, EVERY_EVENT, 3),
-        rule(1, 2, EVERY_EVENT, 3),
-    ];
-    RuleTable::open(&[200, 300, 450], &rules, [0; 4])
+    table(gauges(0, 2), gauges(0, 3))
 }
 
 #[test]
@@ -50,11 +24,17 @@ fn free_tickets_cover_all_from_themselves_on(rt: HostRuntime) -> Result<(), Fail
 // Two ways on from ticket 0 and none between them: it is not free. It is fixed if no gauge makes a difference.
 #[test]
 fn fixed_tickets_cover_themselves_and_others_none(rt: HostRuntime) -> Result<(), Fail> {
-    let apart = [rule(0, 1, 1 << NIGHT, 0), rule(0, 2, 1 << FIRST_CLASS, 0)];
+    let apart = [
+        rule(0, 1, 1 << NIGHT, gauges(0, 0)),
+        rule(0, 2, 1 << FIRST_CLASS, gauges(0, 0)),
+    ];
     let fixed = RuleTable::open(&[200, 300, 450], &apart, [0; 4])?;
     assert!(rt; fixed.is_covering(0, 0));
     assert!(rt; !fixed.is_covering(0, 1));
-    let by_zones = [rule(0, 1, 1 << NIGHT, 2), rule(0, 2, 1 << FIRST_CLASS, 0)];
+    let by_zones = [
+        rule(0, 1, 1 << NIGHT, gauges(0, 2)),
+        rule(0, 2, 1 << FIRST_CLASS, gauges(0, 0)),
+    ];
     let neither = RuleTable::open(&[200, 300, 450], &by_zones, [0; 4])?;
     assert!(rt; !neither.is_covering(0, 0));
     assert!(rt; neither.is_covering(1, 1));
@@ -67,7 +47,7 @@ fn refusal(prices: &[u32], rules: &[Rule], start: u8) -> Option<Refusal> {
 
 #[test]
 fn tables_are_refused_past_each_limit(rt: HostRuntime) {
-    let up = rule(0, 1, 0, 0);
+    let up = rule(0, 1, 0, gauges(0, 0));
     assert_eq!(rt; refusal(&[], &[], 0), Some(Refusal::Rest));
     assert_eq!(rt; refusal(&[100; 32], &[up; 128], 31), None);
     assert_eq!(rt; refusal(&[100; 33], &[up], 0), Some(Refusal::Rest));
@@ -76,11 +56,11 @@ fn tables_are_refused_past_each_limit(rt: HostRuntime) {
     assert_eq!(rt; refusal(&[100, 9_999_999], &[up], 1), None);
     assert_eq!(rt; refusal(&[100, 10_000_000], &[up], 1), Some(Refusal::Rest));
     assert_eq!(rt;
-        refusal(&[100, 100], &[up, rule(1, 1, 0, 0)], 0),
+        refusal(&[100, 100], &[up, rule(1, 1, 0, gauges(0, 0))], 0),
         Some(Refusal::BadRule { place: 1 })
     );
     assert_eq!(rt;
-        refusal(&[100, 100], &[rule(1, 2, 0, 0), up], 0),
+        refusal(&[100, 100], &[rule(1, 2, 0, gauges(0, 0)), up], 0),
         Some(Refusal::BadRule { place: 0 })
     );
     assert_eq!(rt;
@@ -93,7 +73,7 @@ fn tables_are_refused_past_each_limit(rt: HostRuntime) {
 fn a_surcharge_is_held_at_the_highest_price(rt: HostRuntime) -> Result<(), Fail> {
     let table = RuleTable::open(&[9_900_000, 9_900_001], &[], [0, 1, 0, 0])?;
     let night = Surcharge::open(table, NIGHT, 99_999)?;
-    let none = at_zones(0);
+    let none = gauges(0, 0);
     assert_eq!(rt;
         night.price(night.next(night.start(0), none, NIGHT)),
         9_999_999

@@ -1,12 +1,8 @@
-use fares::{Gauges, Ladder, Marked, Measure, Surcharge, Tariff, change, start, update};
+use crate::given::{NIGHT, gauges, table};
+use fares::{Ladder, Marked, Measure, Surcharge, Tariff, change, start, update};
 use measures::{Metres, Zones};
-use rule_table::{Rule, RuleTable};
 use std::process::Abort;
 use std::test::Fail;
-
-const EVERY_EVENT: u16 = 0xffff;
-
-const NIGHT: u8 = 2;
 
 const NIGHT_EXTRA: u32 = 75;
 
@@ -87,30 +83,6 @@ const BY_LADDER: [Ridden; 2] = [
 
 fn with_night<T: Drop>(below: T) -> Result<Surcharge<T>, fares::Refusal> {
     Surcharge::open(below, NIGHT, NIGHT_EXTRA)
-}
-
-fn gauges(metres: u32, zones: u32) -> Gauges {
-    Gauges {
-        metres,
-        stops: 0,
-        zones,
-        level: 0,
-    }
-}
-
-fn rule(ticket: u8, target: u8, minima: Gauges) -> Rule {
-    Rule {
-        ticket,
-        target,
-        events: EVERY_EVENT,
-        minima,
-    }
-}
-
-// Three tickets: the second and the third from these gauges on.
-fn table(second: Gauges, third: Gauges) -> Result<RuleTable, rule_table::Refusal> {
-    let rules = [rule(0, 1, second), rule(0, 2, third), rule(1, 2, third)];
-    RuleTable::open(&[200, 300, 450], &rules, [0; 4])
 }
 
 fn ticket_after<F: Tariff, M: Measure>(tariff: &F, measure: &M, ridden: &Ridden) -> F::Ticket {

@@ -1,6 +1,7 @@
 -- Folds with each element's place, and what holds of some or of each element.
 -- Assumes nothing.
-use Rattle.std.specs.Prelude.{ℕ, suc, Bool, false, ◌||◌, ◌⊎◌, List, [], ◌∷◌}
+use Rattle.std.specs.List.{list_any}
+use Rattle.std.specs.Prelude.{ℕ, suc, Bool, ◌⊎◌, List, [], ◌∷◌}
 
 -- from the left, with each element's place; the list begins at place i
 abbrev pub foldi : {A B : Type 0} → (ℕ → A → B → B) → ℕ → List A → B → B
@@ -9,8 +10,7 @@ foldi f i (x ∷ xs) b = foldi f (suc i) xs (f i x b)
 
 -- some element passes the test
 abbrev pub any : {A : Type 0} → (A → Bool) → List A → Bool
-any p [] = false
-any p (x ∷ xs) = p x || any p xs
+any = list_any
 
 -- some element is such
 abbrev pub Somewhere : {A : Type 0} → (A → Type 0) → List A → Type 0

@@ -49,8 +49,13 @@ module _ {S : Type 0} (ls : List (Label S)) (j : ℕ) (l : Label S) (h : j < len
   none_by (Walked path from) row is e = absurd (let z : ◌≡◌ {A = ℕ} 0 1 = cc in omega arith)
   none_by (Rode first last from) row is e = absurd (let z : ◌≡◌ {A = ℕ} 0 1 = cc in omega arith)
 
-  pub no_leg : (row : ℕ) → last_leg row l.way ≡ None → legs_of ls j ≡ []
-  no_leg row e = none_by l.way row (λ i. l.way) e
+  -- what is read of a last leg is said of the label at its place
+  module _ (row : ℕ) (o : Option (SheetLeg × ℕ)) (read : o ≡ last_leg row (get_or ls j l).way) where
+    of_label : (p : Option (SheetLeg × ℕ)) → o ≡ p → last_leg row l.way ≡ p
+    of_label p is = ap (λ x. last_leg row x.way) e ∙ sym read ∙ is
+
+    pub no_leg : o ≡ None → legs_of ls j ≡ []
+    no_leg is = none_by l.way row (λ i. l.way) (of_label None is)
 
   -- the last leg to a label is the one after those to the label before it
   module _ (row : ℕ) (leg : SheetLeg) (from : ℕ) where
@@ -68,8 +73,8 @@ module _ {S : Type 0} (ls : List (Label S)) (j : ℕ) (l : Label S) (h : j < len
     by_way (Walked path f) is b s = after (walk path) f (λ ts. ap (λ x. legs_by x ts) is) b s
     by_way (Rode first last f) is b s = after (ride first last) f (λ ts. ap (λ x. legs_by x ts) is) b s
 
-    pub leg_after : Backward ls → last_leg row l.way ≡ Some (leg, from) → After
-    leg_after back s = by_way l.way (λ i. l.way) (comes_from ls j l back h e) s
+    pub leg_after : Backward ls → (o : Option (SheetLeg × ℕ)) → o ≡ last_leg row (get_or ls j l).way → o ≡ Some (leg, from) → After
+    leg_after back o read is = by_way l.way (λ i. l.way) (comes_from ls j l back h e) (of_label row o read (Some (leg, from)) is)
 
 -- there is room for the last leg behind those before it
 pub leg_room : (before all : List Leg) (x : Leg) (at room : ℕ) → all ≡ before ++ (x ∷ []) → at + length all ≤ room → at + length before + 1 ≤ room

@@ -90,6 +90,7 @@ fn list_fault<X: Limited>(list: &[X], most: usize, stops: usize) -> Option<usize
     if list.len() > most {
         return Some(list.len());
     }
+    // a loop, since with `position` the proof did not close: the test is a trait's here
     for (place, item) in list.iter().enumerate() {
         if !item.is_within(stops) {
             return Some(place);

@@ -26,7 +26,7 @@ fn fee_of<F: Fare>(fare: &F, label: &Label<F::State>) -> u32
 fn is_before(offer: BestOffer, other: BestOffer) -> bool
     ensures { result ≡ before offer other }
 {
-    offer.arrival < other.arrival || (offer.arrival == other.arrival && offer.price < other.price)
+    (offer.arrival, offer.price) < (other.arrival, other.price)
 }
 
 // The one found first stays where the two are alike.

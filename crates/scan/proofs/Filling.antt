@@ -1,18 +1,11 @@
 -- How the first places of a lent list fill up, one at a time and in a loop. Assumes nothing.
-use Rattle.std.proofs.Common.{◌≡◌, ℕ, ◌+◌, ◌<◌, Bool, List, [], ◌∷◌, ◌++◌, length, get_or, take, drop, set, Err, Result, sym, refl, ap, ◌∙◌, arith, add-one, drop-cons, get_or-take}
-use Rattle.std.specs.List.{list_any}
-use Rattle.std.specs.Prelude.{◌||◌}
+use Rattle.std.proofs.Common.{◌≡◌, ℕ, ◌+◌, ◌<◌, List, [], ◌∷◌, ◌++◌, length, get_or, take, drop, set, Err, Result, sym, ap, ◌∙◌, arith, add-one, drop-cons, get_or-take}
 use Rattle.std.proofs.lemmas.List.{take-take, take-set-le, take_more_set, length-set, length-take-le}
 use Rattle.journeys.specs.declared.full.Full.{Full}
-use Rattle.journeys.specs.Lists.{any}
 use Rattle.journeys.specs.Runs.{Run, on, ended, and_then, run_each, overlay}
 use Rattle.scan.specs.declared.filled.Filled.{Filled}
 use Rattle.scan.specs.Filling.{filled, Kept, ran}
 use Rattle.scan.proofs.Loops.{overlay_next, overlay_overlay}
-
-pub any_same : {A : Type 0} (t : A → Bool) (xs : List A) → any t xs ≡ list_any t xs
-any_same t [] = refl
-any_same t (x ∷ xs) = ap (λ (b : Bool). t x || b) (any_same t xs)
 
 pub length_filled : {X : Type 0} (f : Filled X) → length (filled f) ≡ f.used
 length_filled f = length-take-le f.used f.places.now f.fits

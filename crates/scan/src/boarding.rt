@@ -30,7 +30,6 @@ fn is_state_covered<F: Fare>(fare: &F, aboard: &[Passenger<F::State>], state: F:
 }
 
 // Takes one more aboard unless somebody aboard covers its fare.
-#[tactic(auto, using(crate::proofs::Filling::any_same))]
 fn seat<F: Fare>(
     fare: &F,
     place: u32,

@@ -7,7 +7,6 @@ use crate::filled::Filled;
 use journeys::{Fare, Full, Label};
 
 // Writes a candidate next unless an earlier label covers it.
-#[tactic(auto, using(crate::proofs::Filling::any_same))]
 pub(crate) fn offer<F: Fare>(
     fare: &F,
     candidate: Label<F::State>,

@@ -103,6 +103,7 @@ fn six_bytes(row: Row) -> [u8; 6]
 fn map_of(bytes: &[u8; 6]) -> u8
     ensures { result ≡ map_of bytes.now }
 {
+    // a loop, since with `fold` the proof did not close: its closure is not told that the map is below 64
     let mut map = 0;
     for byte in bytes.iter().rev() {
         map = with_bit(*byte, map);

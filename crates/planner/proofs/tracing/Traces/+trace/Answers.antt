@@ -2,13 +2,12 @@ use Rattle.std.proofs.Common.{◌<◌, map, length, set, sym, ap, ◌∙◌, ari
 use Rattle.journeys.specs.Traces.{legs_of, spelled}
 use Rattle.sheet.specs.Outcome.{pasted}
 use Rattle.sheet.proofs.Pasting.{pasted_none}
-use Rattle.planner.specs.Tracing.{last_leg}
 use Rattle.planner.proofs.Legs.{no_leg, leg_after, leg_end, leg_written, leg_room}
 use Rattle.planner.proofs.tracing.Traces.+trace.Goals as goal
 
 pub returns-in_default : goal.returns-in_default
 returns-in_default g t c =
-    let none = no_leg c.args.self.now.labels.now c.args.place c.index-self-place.result c.requires.place_in_bounds c.index-self-place.is c.args.row (sym (c.last_leg.ensures ∙ ap (λ x. last_leg c.args.row x.way) (sym c.index-self-place.is)) ∙ c.in_default.is) in
+    let none = no_leg c.args.self.now.labels.now c.args.place c.index-self-place.result c.requires.place_in_bounds c.index-self-place.is c.args.row c.last_leg.result c.last_leg.ensures c.in_default.is in
     record {
       end = omega (arith, ap length none);
       legs = pasted_none c.args.at c.args.legs.now ∙ ap (λ ls. pasted c.args.at (map (spelled c.args.row) ls) c.args.legs.now) (sym none);
@@ -17,7 +16,7 @@ returns-in_default g t c =
 pub trace-end-requires : goal.trace-end-requires
 trace-end-requires g t c κs within =
     let ls = c.args.self.now.labels.now in
-    let a = leg_after ls c.args.place c.index-self-place.result c.requires.place_in_bounds c.index-self-place.is c.args.row c.in-Some.leg c.in-Some.from c.args.self.now.backward (sym (c.last_leg.ensures ∙ ap (λ x. last_leg c.args.row x.way) (sym c.index-self-place.is)) ∙ c.in-Some.is) in
+    let a = leg_after ls c.args.place c.index-self-place.result c.requires.place_in_bounds c.index-self-place.is c.args.row c.in-Some.leg c.in-Some.from c.args.self.now.backward c.last_leg.result c.last_leg.ensures c.in-Some.is in
     let is = a.1.1.1 in
     let room = leg_room (legs_of ls c.in-Some.from) (legs_of ls c.args.place) a.1.0 c.args.at (length c.args.legs.now) is c.requires.legs_fit in
     (omega (arith, a.0, c.decreases), (within, (omega (arith, a.0, c.requires.place_in_bounds), omega (arith, room))))
@@ -25,7 +24,7 @@ trace-end-requires g t c κs within =
 pub bounds-legs-end : goal.bounds-legs-end
 bounds-legs-end g t c =
     let ls = c.args.self.now.labels.now in
-    let a = leg_after ls c.args.place c.index-self-place.result c.requires.place_in_bounds c.index-self-place.is c.args.row c.in-Some.leg c.in-Some.from c.args.self.now.backward (sym (c.last_leg.ensures ∙ ap (λ x. last_leg c.args.row x.way) (sym c.index-self-place.is)) ∙ c.in-Some.is) in
+    let a = leg_after ls c.args.place c.index-self-place.result c.requires.place_in_bounds c.index-self-place.is c.args.row c.in-Some.leg c.in-Some.from c.args.self.now.backward c.last_leg.result c.last_leg.ensures c.in-Some.is in
     let is = a.1.1.1 in
     let room = leg_room (legs_of ls c.in-Some.from) (legs_of ls c.args.place) a.1.0 c.args.at (length c.args.legs.now) is c.requires.legs_fit in
     omega (arith, room, c.trace-end.ensures.end, c.trace-end.auto.legs)
@@ -33,7 +32,7 @@ bounds-legs-end g t c =
 pub returns : goal.returns
 returns g t c =
     let ls = c.args.self.now.labels.now in
-    let a = leg_after ls c.args.place c.index-self-place.result c.requires.place_in_bounds c.index-self-place.is c.args.row c.in-Some.leg c.in-Some.from c.args.self.now.backward (sym (c.last_leg.ensures ∙ ap (λ x. last_leg c.args.row x.way) (sym c.index-self-place.is)) ∙ c.in-Some.is) in
+    let a = leg_after ls c.args.place c.index-self-place.result c.requires.place_in_bounds c.index-self-place.is c.args.row c.in-Some.leg c.in-Some.from c.args.self.now.backward c.last_leg.result c.last_leg.ensures c.in-Some.is in
     let is = a.1.1.1 in
     let room = leg_room (legs_of ls c.in-Some.from) (legs_of ls c.args.place) a.1.0 c.args.at (length c.args.legs.now) is c.requires.legs_fit in
     let inside : c.trace-end.result < length c.trace-end.new.legs = omega (arith, room, c.trace-end.ensures.end, c.trace-end.auto.legs) in
