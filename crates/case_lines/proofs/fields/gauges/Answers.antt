@@ -1,0 +1,6 @@
+use Rattle.std.proofs.Common.{sym}
+use Rattle.case_lines.proofs.SameGauges.{shown}
+use Rattle.case_lines.proofs.fields.gauges.Goals as goal
+
+pub returns : goal.returns
+returns c = sym (shown _)

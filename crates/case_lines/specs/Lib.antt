@@ -1,0 +1,5 @@
+pub mod Outcomes
+pub mod Words
+pub mod Keywords
+pub mod Fields
+pub mod Reading
