@@ -1,0 +1,27 @@
+#![tactic(auto)]
+// The record of a board: the lines that are written of a case, of a board that was not opened, of
+// each reply to an entry of its log, and of a sheet that was claimed.
+//
+// Each `write_` appends whole lines to the bytes written so far, and fails only where memory runs
+// out. `specs/Records` says which bytes they are.
+
+mod answering;
+mod appending;
+mod cases;
+mod claims;
+mod front;
+mod legs;
+mod opening;
+mod opening_refusal;
+mod refusing;
+mod replying;
+mod sheets;
+#[cfg(test)]
+mod tests;
+mod unanswered;
+
+pub use cases::write_case;
+pub use claims::write_claim;
+pub use opening::write_opening;
+pub use opening_refusal::OpeningRefusal;
+pub use replying::write_reply;
