@@ -1,0 +1,9 @@
+pub mod NextLine
+pub mod Known
+pub mod Reading
+pub mod Onward
+pub mod Turning
+pub mod Refusing
+pub mod Taking
+pub mod Loading
+pub mod FirstBoard
