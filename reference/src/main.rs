@@ -1,27 +1,12 @@
 //! An exhaustive reference for the planner: replays case files, holds records of the planner
 //! against them, and generates case files.
 
-mod case_file;
-mod day;
-mod fares;
-mod generate;
-mod network;
-mod record;
-mod refusal;
-mod replay;
-mod search;
-mod self_check;
-mod sheet;
-#[cfg(test)]
-mod tests;
-mod timetable;
-mod verify;
-
 use std::io::{self, BufWriter, Read, Write};
 use std::process::ExitCode;
 
-use replay::{replay, End};
-use verify::Verdict;
+use reference::replay::{replay, End};
+use reference::verify::Verdict;
+use reference::{generate, record, self_check, text, verify};
 
 const USAGE: &str = "usage: reference                              a case file on standard input
        reference verify CASEFILE RECORDFILE
@@ -62,12 +47,6 @@ fn main() -> ExitCode {
             ExitCode::from(failure.status)
         }
     }
-}
-
-/// Bytes that are no text become signs that no line has a meaning for, so that they are named as
-/// what they are: words that cannot be read.
-fn text(bytes: &[u8]) -> String {
-    String::from_utf8_lossy(bytes).into_owned()
 }
 
 fn read_input() -> Result<String, String> {

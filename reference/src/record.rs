@@ -40,7 +40,7 @@ impl<W: Write> Recorder<W> {
     }
 }
 
-fn leg_line(row: usize, leg: &Leg) -> String {
+pub fn leg_line(row: usize, leg: &Leg) -> String {
     let kind = match leg.kind {
         Kind::Walk => 0,
         Kind::Ride => 1,

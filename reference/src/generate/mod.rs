@@ -4,7 +4,7 @@ mod bad;
 mod case;
 mod pointed;
 mod random;
-mod rng;
+pub mod rng;
 
 use std::io::Write;
 
