@@ -1,9 +1,10 @@
 ghost use Rattle.std.specs.Prelude.{◌≡◌};
-ghost use Rattle.planner.specs.Comparing.{Tells};
-ghost use Rattle.planner.specs.Lent.{memory_of, SameLists};
-ghost use Rattle.day_planner.specs.Comparing.{SameBestAfter};
+ghost use Rattle.planner.specs.Comparing.{left_of_second, Tells};
+ghost use Rattle.planner.specs.Lent.{memory_of, Ends, SameLists};
+ghost use Rattle.planner.specs.Refusals.{numbered};
+ghost use Rattle.day_planner.specs.Comparing.{compared, SameBestAfter};
 ghost use Rattle.day_planner.specs.Inquiries.{log_of};
-ghost use Rattle.day_planner.specs.Log.{hops_after};
+ghost use Rattle.day_planner.specs.Log.{asked_after, hops_after};
 ghost use Rattle.day_planner.specs.Promise.{Promise};
 ghost use Rattle.makers.specs.MakerBoards.{our_basis, their_basis};
 
@@ -27,6 +28,8 @@ pub fn ask_ours(
     ours: Inquiry<HopList, OurTariff, OurMeasure>,
     lent: &mut Lent<OurState>,
 ) -> Result<Answer, Refusal>
+    ensures outcome { Ends (asked_after (our_basis ours.entry.timetable ours.entry.tariff ours.entry.network) (log_of ours.entry) ours.entry.question (memory_of lent.old)) result (memory_of lent.new) }
+    ensures numbers { numbered result ≡ numbered (asked_after (our_basis ours.entry.timetable ours.entry.tariff ours.entry.network) (log_of ours.entry) ours.entry.question (memory_of lent.old)).answer }
     ensures promise { Promise (our_basis ours.entry.timetable ours.entry.tariff ours.entry.network) (hops_after ours.entry.timetable.hops.now (log_of ours.entry)) ours.entry.question (memory_of lent.old) result (memory_of lent.new) }
     ensures same_lists { SameLists lent.old lent.new }
 {
@@ -38,6 +41,8 @@ pub fn ask_theirs(
     theirs: Inquiry<IntervalLine, Ladder, Zones>,
     lent: &mut Lent<TheirState>,
 ) -> Result<Answer, Refusal>
+    ensures outcome { Ends (asked_after (their_basis theirs.entry.timetable theirs.entry.tariff theirs.entry.network) (log_of theirs.entry) theirs.entry.question (memory_of lent.old)) result (memory_of lent.new) }
+    ensures numbers { numbered result ≡ numbered (asked_after (their_basis theirs.entry.timetable theirs.entry.tariff theirs.entry.network) (log_of theirs.entry) theirs.entry.question (memory_of lent.old)).answer }
     ensures promise { Promise (their_basis theirs.entry.timetable theirs.entry.tariff theirs.entry.network) (hops_after (their_basis theirs.entry.timetable theirs.entry.tariff theirs.entry.network).hops (log_of theirs.entry)) theirs.entry.question (memory_of lent.old) result (memory_of lent.new) }
     ensures same_lists { SameLists lent.old lent.new }
 {
@@ -51,7 +56,10 @@ pub fn compare_makers(
     theirs: Inquiry<IntervalLine, Ladder, Zones>,
     other: &mut Lent<TheirState>,
 ) -> Result<bool, Refused>
+    ensures answer { result ≡ compared (asked_after (our_basis ours.entry.timetable ours.entry.tariff ours.entry.network) (log_of ours.entry) ours.entry.question (memory_of lent.old)) (asked_after (their_basis theirs.entry.timetable theirs.entry.tariff theirs.entry.network) (log_of theirs.entry) theirs.entry.question (memory_of other.old)) }
     ensures same_offers { Tells result (SameBestAfter (our_basis ours.entry.timetable ours.entry.tariff ours.entry.network) (log_of ours.entry) ours.entry.question (their_basis theirs.entry.timetable theirs.entry.tariff theirs.entry.network) (log_of theirs.entry) theirs.entry.question) }
+    ensures our_left { (memory_of lent.new) ≡ (asked_after (our_basis ours.entry.timetable ours.entry.tariff ours.entry.network) (log_of ours.entry) ours.entry.question (memory_of lent.old)).left }
+    ensures their_left { (memory_of other.new) ≡ left_of_second (asked_after (our_basis ours.entry.timetable ours.entry.tariff ours.entry.network) (log_of ours.entry) ours.entry.question (memory_of lent.old)).answer (memory_of other.old) (asked_after (their_basis theirs.entry.timetable theirs.entry.tariff theirs.entry.network) (log_of theirs.entry) theirs.entry.question (memory_of other.old)) }
     ensures our_lists { SameLists lent.old lent.new }
     ensures their_lists { SameLists other.old other.new }
 {
