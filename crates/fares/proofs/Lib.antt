@@ -1,2 +1,2 @@
-pub mod SameReadings
+pub mod GaugeOrder
 pub mod KeepingCovering

@@ -1,4 +1,5 @@
 -- The laws of a surcharge over a lawful tariff, and the range of its prices.
+-- Assumes nothing.
 use Rattle.std.proofs.Common.{◌≡◌, ℕ, ◌+◌, ◌≤◌, min, Bool, true, false, cond, not, ◌||◌, eqb, refl, arith}
 use Rattle.std.proofs.lemmas.Bool.{and_parts, and_from}
 use Rattle.fares.specs.Limits.{top_price}

@@ -6,8 +6,8 @@ use Rattle.journeys.specs.Selection.{pick, picks, best_offers}
 use Rattle.sheet.specs.Format.{encode_row, encode}
 use Rattle.sheet.specs.Reading.{bits, spread, decode_row, decode_rows, decode}
 use Rattle.planner.specs.Limits.{fault_of}
-use Rattle.ferry_cases.specs.FerryBoard.{ferry_hops}
-use Rattle.ferry_cases.specs.FerryCases.{FerryCases, read_from, to, both_ways, no_way, half_way, no_trip, by_ferry, by_land_first, refused}
+use Rattle.ferry_cases.specs.FerryBoard.{ferry_hops, to}
+use Rattle.ferry_cases.specs.FerryCases.{FerryCases, read_from, both_ways, no_way, half_way, no_trip, by_ferry, by_land_first, refused}
 use Rattle.ferry_cases.proofs.Days.{shown_over, without_1, with_0_at, after_nothing, after_cancel, after_300, after_301}
 use Rattle.ferry_cases.proofs.Tickets.{small_tariff, tariff_is}
 

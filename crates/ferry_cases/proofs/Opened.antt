@@ -1,10 +1,8 @@
 -- The ferry's rules, and its tariff from what its table and its surcharge open with.
 use Rattle.std.proofs.Common.{◌≡◌, ℕ, ◌≤◌, min, List, Ok, Result, ap, ◌∙◌, arith}
-use Rattle.std.specs.Coded.{le_prop}
-use std.HLevel.{prop→path_p}
 use Rattle.fares.specs.Limits.{top_reading}
-use Rattle.fares.specs.declared.gauges.Gauges.{Gauges}
 use Rattle.measures.specs.Shown.{readings}
+use Rattle.measures.proofs.SameGauges.{same_gauges}
 use Rattle.fares.specs.declared.surcharges.Surcharge.{Surcharge}
 use Rattle.fares.specs.Surcharges.{surcharge_model}
 use Rattle.rule_table.specs.declared.rule.Rule.{Rule}
@@ -21,21 +19,6 @@ ferry_opened t table e f =
     let a : ◌≡◌ {A = RuleTable × ℕ × ℕ} (t.below, t.event, t.extra) (table, 2, 150) = cc in
     let b : ◌≡◌ {A = List ℕ × List Rule × List ℕ} (parts_of table) (ferry_prices, ferry_rules, ferry_starts) = cc in
     ap (λ p. surcharge_model p.1 p.2 (table_of p.0)) a ∙ ap (λ p. surcharge_model 2 150 (table_model p.0 p.1 p.2)) b
-
--- gauges are equal where their readings are
-pub same_gauges : (g h : Gauges) → g.metres ≡ h.metres → g.stops ≡ h.stops → g.zones ≡ h.zones → g.level ≡ h.level → g ≡ h
-same_gauges g h p q r s = λ i. record {
-  metres = p i;
-  stops = q i;
-  zones = r i;
-  level = s i;
-  fits = (
-    prop→path_p (λ j. p j ≤ top_reading) le_prop g.fits.0 h.fits.0 i,
-    prop→path_p (λ j. q j ≤ top_reading) le_prop g.fits.1 h.fits.1 i,
-    prop→path_p (λ j. r j ≤ top_reading) le_prop g.fits.2 h.fits.2 i,
-    prop→path_p (λ j. s j ≤ top_reading) le_prop g.fits.3 h.fits.3 i,
-  );
-}
 
 pub rule_made : (r : Rule) (ticket target zones : ℕ) → zones ≤ top_reading → r.ticket ≡ ticket → r.target ≡ target → r.events ≡ 65535 → r.minima.metres ≡ 0 → r.minima.stops ≡ 0 → r.minima.zones ≡ zones → r.minima.level ≡ 0
     → r ≡ rule ticket target zones

@@ -17,6 +17,7 @@ use Rattle.journeys.specs.declared.label.Way.TheVariants.{Origin}
 use Rattle.journeys.specs.declared.leg.Leg.{Leg}
 use Rattle.journeys.specs.declared.leg.LegKind.TheVariants.{Walk}
 use Rattle.journeys.specs.declared.network.Stop.{Stop}
+use Rattle.journeys.specs.declared.question.Question.{Question}
 use Rattle.sheet.specs.Format.{sheet_bytes}
 use Rattle.planner.specs.Limits.{most_legs}
 use Rattle.planner.specs.Outcome.{Memory}
@@ -55,6 +56,14 @@ inland = record { zone = 2; class = 0 }
 -- stop 2 is the only one inland
 abbrev pub ferry_stops : List Stop
 ferry_stops = harbour ∷ harbour ∷ inland ∷ harbour ∷ []
+
+-- from stop 0 at 600, to a stop, with so many rides at most
+abbrev pub to : ℕ → ℕ → Question
+to destination rides = record { origin = 0; destination = destination; departure = 600; rides = rides }
+
+-- from the first harbour to the last, with the two rides that it takes
+abbrev pub ferry_question : Question
+ferry_question = to 3 2
 
 -- from ticket to ticket at every event, once so many zones are touched
 abbrev pub rule : ℕ → ℕ → ℕ → Rule

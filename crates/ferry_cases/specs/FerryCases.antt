@@ -20,7 +20,7 @@ use Rattle.planner.specs.Refusals.{numbered}
 use Rattle.day_planner.specs.declared.entry.Entry.{Entry}
 use Rattle.day_planner.specs.declared.entry.Entry.TheVariants.{Cancel, Delay}
 use Rattle.day_planner.specs.Log.{Basis, asked_after}
-use Rattle.ferry_cases.specs.FerryBoard.{ferry_hops, ferry_stops, ferry_tariff, blank_memory}
+use Rattle.ferry_cases.specs.FerryBoard.{ferry_hops, ferry_stops, to, ferry_question, ferry_tariff, blank_memory}
 
 -- what a caller sees of an answer: how many labels were written, the sheet and the legs
 pub record Shown : Type 0 where
@@ -70,10 +70,6 @@ abbrev pub Holds : Case → Type 0
 Holds (asks log q labels aboard result) = shown_after ferry_tariff log q labels aboard ≡ result
 Holds (reads bytes result) = read_from bytes ≡ result
 
--- from stop 0 at 600, to a stop, with so many rides at most
-abbrev pub to : ℕ → ℕ → Question
-to destination rides = record { origin = 0; destination = destination; departure = 600; rides = rides }
-
 -- a ride handed out with a row: its first and its last hop
 abbrev pub ride : ℕ → ℕ → ℕ → Leg
 ride row first last = record { row = row; kind = Ride; first = first; last = last }
@@ -117,17 +113,17 @@ by_land_first = record {
 -- room to spare, just enough and a place too few; other questions; a trip cancelled, a trip delayed; bytes that are no sheet
 abbrev pub cases : List Case
 cases =
-    asks [] (to 3 2) 64 16 (Ok both_ways)
-    ∷ asks [] (to 3 2) 6 16 (Ok both_ways)
-    ∷ asks [] (to 3 2) 5 16 (refused 12 5)
-    ∷ asks [] (to 3 2) 64 2 (Ok both_ways)
-    ∷ asks [] (to 3 2) 64 1 (refused 13 3)
+    asks [] ferry_question 64 16 (Ok both_ways)
+    ∷ asks [] ferry_question 6 16 (Ok both_ways)
+    ∷ asks [] ferry_question 5 16 (refused 12 5)
+    ∷ asks [] ferry_question 64 2 (Ok both_ways)
+    ∷ asks [] ferry_question 64 1 (refused 13 3)
     ∷ asks [] (to 3 1) 64 16 (Ok no_way)
     ∷ asks [] (to 1 2) 64 16 (Ok half_way)
     ∷ asks [] (to 0 2) 64 16 (Ok no_trip)
-    ∷ asks (Cancel 1 ∷ []) (to 3 2) 64 16 (Ok by_ferry)
-    ∷ asks (Delay 0 300 ∷ []) (to 3 2) 64 16 (Ok both_ways)
-    ∷ asks (Delay 0 301 ∷ []) (to 3 2) 64 16 (Ok by_land_first)
+    ∷ asks (Cancel 1 ∷ []) ferry_question 64 16 (Ok by_ferry)
+    ∷ asks (Delay 0 300 ∷ []) ferry_question 64 16 (Ok both_ways)
+    ∷ asks (Delay 0 301 ∷ []) ferry_question 64 16 (Ok by_land_first)
     ∷ reads (0x01 ∷ 0x1b ∷ 0xdc ∷ 0x05 ∷ 0x5e ∷ 0x00 ∷ []) (refused 16 0)
     ∷ reads (0x00 ∷ 0x00 ∷ []) (refused 16 255)
     ∷ []

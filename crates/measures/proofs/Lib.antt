@@ -1,1 +1,2 @@
+pub mod SameGauges
 pub mod ZoneBits

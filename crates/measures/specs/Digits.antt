@@ -1,4 +1,5 @@
 -- Sets as the bits of a number: laws of union and inclusion that the logic's library lacks, bit by bit.
+-- Assumes nothing.
 use Rattle.std.specs.Prelude.{◌≡◌, ℕ, ◌/◌, ◌≤◌, bit_and, bit_or}
 use Rattle.std.proofs.Common.{sym, ap, ◌∙◌, zero-le, arith}
 use Rattle.std.proofs.Math.Arith.{bin_ind}

@@ -1,4 +1,5 @@
 -- The laws of a pair of lawful measures, part by part.
+-- Assumes nothing.
 use Rattle.std.proofs.Common.{arith}
 use Rattle.std.proofs.lemmas.Bool.{and_parts, and_from}
 use Rattle.fares.specs.Measures.{MeasureModel, MeasureLaws}

@@ -1,4 +1,5 @@
 -- Weights with a range are equal where their numbers are.
+-- Assumes nothing.
 use Rattle.std.specs.Prelude.{◌≡◌, ◌^◌, ◌<◌, ◌≤◌}
 use Rattle.std.proofs.Math.Bridge.{le_prop}
 use std.HLevel.{prop→path_p}

@@ -1,4 +1,5 @@
 -- The laws of zones: sets under union, ordered by inclusion, counted.
+-- Assumes nothing.
 use Rattle.std.specs.Prelude.{◌≡◌, ℕ, ◌%◌, ◌^◌, ◌≤◌, bit_and, bit_or, count_ones, refl}
 use Rattle.std.proofs.Common.{sym, ap, ap₂, subst₂, ◌∙◌, mod-eq_of_lt, arith}
 use Rattle.std.specs.Int.Bits.{and_self, or_zero_r}

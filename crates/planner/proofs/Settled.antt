@@ -7,7 +7,7 @@ use Rattle.std.proofs.lemmas.Bool.{cases_lt, true≢false}
 use Rattle.timetable.specs.declared.hops.Hop.{Hop}
 use Rattle.timetable.specs.Rule.{keeps}
 use Rattle.timetable.specs.Table.{count_of}
-use Rattle.timetable.proofs.Neighbours.{arrives_by}
+use Rattle.timetable.proofs.Arrivals.{arrives_by}
 use Rattle.journeys.specs.declared.best_offer.BestOffer.{BestOffer}
 use Rattle.journeys.specs.declared.label.Label.{Label}
 use Rattle.journeys.specs.declared.label.Passenger.{Passenger}

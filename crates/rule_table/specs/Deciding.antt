@@ -1,6 +1,6 @@
 -- The finite tests decide free, fixed and covering, in a table whose rules rise and stay within its at most 32 tickets.
--- Free speaks of all gauges. The test looks at each rule's own minima alone: they are the lowest gauges at which the rule
--- is met, and next tickets only rise with the gauges, so a ticket that is overtaken anywhere is overtaken there.
+-- Assumes nothing. Free speaks of all gauges; the test looks at each rule's own minima alone: they are the lowest gauges at
+-- which the rule is met, and next tickets only rise with the gauges, so a ticket that is overtaken anywhere is overtaken there.
 use Rattle.std.specs.Prelude.{◌≡◌, ℕ, zero, suc, ◌+◌, ◌-◌, ◌<◌, ◌≤◌, Bool, true, false, cond, not, ◌&&◌, ◌||◌, ◌⊎◌, List, [], ◌∷◌, Decides, ◌==◌, ◌≢◌, nat_le, nat_lt, refl}
 use Rattle.std.proofs.Common.{inl, inr, ⊎_elim, sym, subst, arith}
 use Rattle.std.proofs.lemmas.Bool.{leb-true, le-leb, cases_lt, false≢true, and_parts, and_from}
@@ -12,7 +12,7 @@ use Rattle.rule_table.specs.Rules.{event_among, met, ticket_after, SomeRule, Lea
 use Rattle.rule_table.specs.Rules.Reaches.{stays, goes}
 use Rattle.fares.specs.declared.gauges.Gauges.{Gauges}
 use Rattle.rule_table.specs.declared.rule.Rule.{Rule}
-use Rattle.fares.proofs.SameReadings.{at_most_trans, at_most_same}
+use Rattle.fares.proofs.GaugeOrder.{at_most_trans, at_most_same}
 use Rattle.rule_table.specs.Bounded.{decides_all, decides_some, decides_rule, some_weaker, least}
 use Rattle.rule_table.specs.NextTickets.{met_tells, met_from, next_ge, next_met, next_cases, next_rises, next_reached}
 use Rattle.rule_table.specs.Reaching.{decides_itself, reaches_trans, reaches_split, reaches_le, reaches_within, decides_reaches}

@@ -1,4 +1,5 @@
 -- What the next ticket is, and how it moves with the readings.
+-- Assumes nothing.
 use Rattle.std.specs.Prelude.{◌≡◌, ℕ, ◌/◌, ◌%◌, ◌^◌, ◌<◌, ◌≤◌, max, true, false, cond, ◌&&◌, ◌⊎◌, List, [], ◌∷◌, ◌==◌, nat_le, nat_lt, refl}
 use Rattle.std.proofs.Common.{inl, inr, ⊎_elim, sym, subst, ◌∙◌, arith}
 use Rattle.std.proofs.lemmas.Bool.{and_parts, and_from, leb-true, le-leb, eqb-true, eq-eqb, ltb-true, cond_both, cond-true, cond-false, cases_Bool, cases_lt}
@@ -7,7 +8,7 @@ use Rattle.rule_table.specs.Rules.{event_among, at_least, met, next_from, ticket
 use Rattle.rule_table.specs.Rules.Reaches.{stays, goes}
 use Rattle.fares.specs.declared.gauges.Gauges.{Gauges}
 use Rattle.rule_table.specs.declared.rule.Rule.{Rule}
-use Rattle.fares.proofs.SameReadings.{at_most_trans}
+use Rattle.fares.proofs.GaugeOrder.{at_most_trans}
 use Rattle.rule_table.specs.Bounded.{some_weaker}
 
 -- ---- when a rule is met

@@ -1,4 +1,5 @@
 -- Reaching, in a table whose rules rise and stay within its tickets: it rises, it stays within, and the test decides it.
+-- Assumes nothing.
 use Rattle.std.specs.Prelude.{◌≡◌, ℕ, zero, suc, ◌+◌, ◌<◌, ◌≤◌, Bool, true, ◌&&◌, ◌⊎◌, List, [], ◌∷◌, Decides, ◌==◌}
 use Rattle.std.proofs.Common.{inl, inr, ⊎_elim, sym, subst, arith}
 use Rattle.std.proofs.Math.Path.{refl}

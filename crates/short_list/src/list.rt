@@ -1,4 +1,4 @@
-ghost use Rattle.std.specs.Prelude.{◌≤◌};
+ghost use Rattle.std.specs.Prelude.{◌≡◌, ◌≤◌, ⊤};
 
 use std::alloc::AllocError;
 
@@ -12,6 +12,10 @@ pub struct ShortList<X, const N: usize> {
 
 // By hand: with a derive on a type with a parameter and a ghost field, the proof did not close.
 impl<X: Copy, const N: usize> Clone for ShortList<X, N> {
+    ghost is_clone = { λ list copy. copy ≡ list };
+
+    ghost is_infallible = { λ _. ⊤ };
+
     fn clone(&self) -> Result<ShortList<X, N>, AllocError> {
         Ok(*self)
     }

@@ -1,6 +1,6 @@
 pub mod Breaks
 pub mod Opens
 pub mod Places
-pub mod Neighbours
+pub mod Arrivals
 pub mod Lines
 pub mod LineLimits

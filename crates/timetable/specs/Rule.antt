@@ -1,6 +1,6 @@
 -- The timetable rule: a test of a list of hops, and the same rule in plain facts.
 -- Assumes nothing.
-use Rattle.std.specs.Prelude.{◌≡◌, ℕ, suc, ◌+◌, ◌<◌, ◌≤◌, Bool, true, not, ◌&&◌, ◌||◌, ◌⊎◌, List, [], ◌∷◌, Some, None, Decides, Option, ◌==◌, nat_le, nat_lt}
+use Rattle.std.specs.Prelude.{◌≡◌, ℕ, suc, ◌+◌, ◌<◌, ◌≤◌, Bool, true, not, ◌&&◌, ◌||◌, ◌⊎◌, List, [], ◌∷◌, Some, None, Option, ◌==◌, nat_le, nat_lt}
 use Rattle.std.specs.List.{slice_get}
 use Rattle.timetable.specs.declared.hops.Hop.{Hop}
 
@@ -71,7 +71,3 @@ pub record Rule (hs : List Hop) : Type 0 where
   pub goes_on : (i : ℕ) (g h : Hop) → slice_get hs i ≡ Some g → slice_get hs (suc i) ≡ Some h → (h.trip ≡ g.trip) ⊎ (h.trip ≡ g.trip + 1)
   pub meet : (i : ℕ) (g h : Hop) → slice_get hs i ≡ Some g → slice_get hs (suc i) ≡ Some h →
       h.trip ≡ g.trip → g.runs ≡ true → h.runs ≡ true → (g.to ≡ h.from) × (g.arrival ≤ h.departure)
-
--- the test decides the facts
-abbrev pub RuleDecided : Type 0
-RuleDecided = (hs : List Hop) → Decides (keeps hs) (Rule hs)

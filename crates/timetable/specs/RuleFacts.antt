@@ -5,7 +5,7 @@ use Rattle.std.proofs.Common.{inl, inr, ⊎_elim, subst, arith}
 use Rattle.std.specs.List.{slice_get}
 use Rattle.std.proofs.lemmas.Bool.{and_parts, and_from, or_cases, or_left, or_right, ltb-true, leb-true, eqb-true, lt-ltb, le-leb, eq-eqb}
 use Rattle.timetable.specs.declared.hops.Hop.{Hop}
-use Rattle.timetable.specs.Rule.{day_end, most_metres, top_level, within_limits, fit, meets, joined, next_trip, may_stand_after, keeps_after, keeps, Limits, Rule, RuleDecided}
+use Rattle.timetable.specs.Rule.{day_end, most_metres, top_level, within_limits, fit, meets, joined, next_trip, may_stand_after, keeps_after, keeps, Limits, Rule}
 
 pub limits_of : (h : Hop) → within_limits h ≡ true → Limits h
 limits_of h e =
@@ -102,6 +102,3 @@ rule_tested hs r = keeps_from None hs
     (λ i g h e f. and_from _ _
     (⊎_elim (λ p. or_left _ _ (eq-eqb h.trip g.trip p)) (λ p. or_right (h.trip == g.trip) _ (eq-eqb h.trip (g.trip + 1) p)) (r.goes_on i g h e f))
     (and_from _ _ (fit_tested h (r.limits (suc i) h f)) (joined_tested g h (r.meet i g h e f))))
-
-pub rule_decided : RuleDecided
-rule_decided hs = (rule_kept hs, rule_tested hs)

@@ -1,5 +1,5 @@
 use Rattle.std.proofs.Common.{sym}
-use Rattle.case_lines.proofs.SameGauges.{shown}
+use Rattle.measures.proofs.SameGauges.{shown}
 use Rattle.case_lines.proofs.fields.gauges.Goals as goal
 
 pub returns : goal.returns
