@@ -1,5 +1,5 @@
 use crate::printed::{BLANK_BYTE, BLANK_LEG, Printed};
-use ferry_cases::{NO_FARE, QUESTION, STOPS, hops, tariff};
+use ferry_cases::{QUESTION, STOPS, hops, no_fare, tariff};
 use journeys::{Footpath, Label, Leg, Network, Passenger, Question, Stop};
 use measures::Zones;
 use planner::{Answer, Board, Lent, MOST_LEGS, Printout, Refusal, ask};
@@ -64,9 +64,9 @@ impl Case<'_> {
         if self.bytes > SHEET_BYTES || self.legs > MOST_LEGS {
             return Err(Fail::new("more paper than there is"));
         }
-        let mut labels = [Label::at_origin(0, 0, NO_FARE); MOST_LABELS];
+        let mut labels = [Label::at_origin(0, 0, no_fare()); MOST_LABELS];
         let mut aboard = [Passenger {
-            state: NO_FARE,
+            state: no_fare(),
             label: 0,
             first: 0,
         }; MOST_ABOARD];

@@ -1,4 +1,4 @@
-use ferry_cases::{NETWORK, NO_FARE, QUESTION, hops, tariff};
+use ferry_cases::{NETWORK, QUESTION, hops, no_fare, tariff};
 use journeys::{Label, Leg, Passenger};
 use measures::Zones;
 use planner::{Answer, Board, Lent, Printout, ask};
@@ -19,9 +19,9 @@ pub fn ask_ferry(sheet: &mut [u8], legs: &mut [Leg]) -> anyhow::Result<Answer> {
         tariff: &tariff,
         measure: &Zones {},
     };
-    let mut labels = [Label::at_origin(0, 0, NO_FARE); LABELS];
+    let mut labels = [Label::at_origin(0, 0, no_fare()); LABELS];
     let mut aboard = [Passenger {
-        state: NO_FARE,
+        state: no_fare(),
         label: 0,
         first: 0,
     }; SEATS];

@@ -2,8 +2,8 @@ ghost use Rattle.std.specs.Prelude.{◌≡◌, true, is_ok, IfOk};
 ghost use Rattle.timetable.specs.Rule.{keeps};
 ghost use Rattle.fares.specs.Surcharges.{surcharge_model};
 ghost use Rattle.rule_table.specs.OpenedTables.{table_of};
-ghost use Rattle.ferry_cases.specs.FerryBoard.{hop as hop_of, ferry_hops, ferry_stops, ferry_question, no_fare, rule as rule_of, ferry_tariff};
-ghost use Rattle.ferry_cases.specs.declared.board.TheConstants.{STOPS, QUESTION, NO_FARE};
+ghost use Rattle.ferry_cases.specs.FerryBoard.{hop as hop_of, ferry_hops, ferry_stops, ferry_question, no_fare as no_fare_of, rule as rule_of, ferry_tariff};
+ghost use Rattle.ferry_cases.specs.declared.board.TheConstants.{STOPS, QUESTION};
 
 use crate::fault::Fault;
 use fares::{FareState, Gauges, Marked, Surcharge};
@@ -42,19 +42,22 @@ pub const QUESTION: Question = Question {
 pub type FerryState = FareState<Marked<u8>, ZoneSet>;
 
 // What a blank place holds.
-pub const NO_FARE: FerryState = FareState {
-    ticket: Marked {
-        below: 0,
-        marked: false,
-    },
-    weight: ZoneSet { members: 0 },
-};
+pub fn no_fare() -> FerryState
+    ensures { result ≡ no_fare_of }
+{
+    FareState {
+        ticket: Marked {
+            below: 0,
+            marked: false,
+        },
+        weight: ZoneSet { members: 0 },
+    }
+}
 
-// The stops, the question and what a blank place holds are those of the cases. There is nothing to run.
+// The stops and the question are those of the cases. There is nothing to run.
 pub fn ferry_constants()
     ensures stops { STOPS ≡ ferry_stops }
     ensures question { QUESTION ≡ ferry_question }
-    ensures no_fare { NO_FARE ≡ no_fare }
 {}
 
 // A running hop of no length.
