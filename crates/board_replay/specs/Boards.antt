@@ -21,12 +21,11 @@ use Rattle.measures.specs.Pairs.{pair_model}
 use Rattle.measures.specs.ZoneSets.{zones_model}
 use Rattle.rule_table.specs.Refusals.{cause as table_cause}
 use Rattle.rule_table.specs.RuleTables.{table_opened, table_model}
-use Rattle.journeys.specs.declared.label.Label.{Label}
 use Rattle.journeys.specs.declared.label.Passenger.{Passenger}
-use Rattle.journeys.specs.declared.label.Way.TheVariants.{Origin}
 use Rattle.journeys.specs.declared.leg.Leg.{Leg}
 use Rattle.journeys.specs.declared.leg.LegKind.TheVariants.{Walk}
 use Rattle.service_day.specs.DayStates.{first_day}
+use Rattle.scan.specs.Chains.{blank_label}
 use Rattle.planner.specs.Outcome.{Memory}
 use Rattle.case_lines.specs.declared.line.Extra.{Extra}
 use Rattle.case_lines.specs.declared.line.MeasureName.{MeasureName}
@@ -52,10 +51,7 @@ abbrev pub room_of : Option Room → Room
 room_of None = usual_room
 room_of (Some room) = room
 
--- a blank place for a label, for somebody aboard, and for a leg
-abbrev pub blank_label : {S : Type 0} → S → Label S
-blank_label state = record { stop = 0; time = 0; rides = 0; state = state; way = Origin }
-
+-- a blank place for somebody aboard, and for a leg
 abbrev pub blank_passenger : {S : Type 0} → S → Passenger S
 blank_passenger state = record { state = state; label = 0; first = 0 }
 

@@ -5,7 +5,8 @@ ghost use Rattle.board_replay.specs.Memories.{memory_in};
 
 use case_lines::Room;
 use fares::{FareState, LawfulMeasure, LawfulTariff, Measure, Tariff, start};
-use journeys::{Label, Leg, LegKind, Passenger, Stop};
+use journeys::{Leg, LegKind, Passenger, Stop};
+use scan::StoredLabel;
 use std::alloc::{AllocError, Global};
 
 const NOWHERE: Stop = Stop { zone: 0, class: 0 };
@@ -28,7 +29,7 @@ pub(crate) const USUAL_ROOM: Room = Room {
 // The memory that a board's questions are lent.
 #[derive(Drop)]
 pub(crate) struct Memory<S> {
-    pub(crate) labels: Vec<Label<S>>,
+    pub(crate) labels: Vec<StoredLabel<S>>,
     pub(crate) aboard: Vec<Passenger<S>>,
     pub(crate) sheet: Vec<u8>,
     pub(crate) legs: Vec<Leg>,
@@ -55,7 +56,7 @@ impl<S: Copy> Memory<S> {
             first: 0,
         };
         Ok(Memory {
-            labels: blank(alloc, room.labels, Label::at_origin(0, 0, state))?,
+            labels: blank(alloc, room.labels, StoredLabel::blank(state))?,
             aboard: blank(alloc, room.aboard, passenger)?,
             sheet: blank(alloc, room.bytes, 0)?,
             legs: blank(alloc, room.legs, NO_LEG)?,

@@ -1,9 +1,9 @@
 use crate::printed::{BLANK_BYTE, BLANK_LEG, Printed};
 use ferry_cases::{QUESTION, STOPS, hops, no_fare, tariff};
-use journeys::{Footpath, Label, Leg, Network, Passenger, Question, Stop};
+use journeys::{Footpath, Leg, Network, Passenger, Question, Stop};
 use measures::Zones;
 use planner::{Answer, Board, Lent, MOST_LEGS, Printout, Refusal, ask};
-use scan::LabelStore;
+use scan::{LabelStore, StoredLabel};
 use sheet::SHEET_BYTES;
 use std::test::*;
 use timetable::{Hop, HopList};
@@ -64,7 +64,7 @@ impl Case<'_> {
         if self.bytes > SHEET_BYTES || self.legs > MOST_LEGS {
             return Err(Fail::new("more paper than there is"));
         }
-        let mut labels = [Label::at_origin(0, 0, no_fare()); MOST_LABELS];
+        let mut labels = [StoredLabel::blank(no_fare()); MOST_LABELS];
         let mut aboard = [Passenger {
             state: no_fare(),
             label: 0,

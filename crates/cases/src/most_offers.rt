@@ -1,11 +1,11 @@
 use crate::printed::{BLANK_BYTE, BLANK_LEG, Printed, ride};
 use fares::{FareState, Gauges, Marked, Surcharge};
 use ferry_cases::{FERRY, hop};
-use journeys::{Label, Leg, Network, Passenger, Question, Stop};
+use journeys::{Leg, Network, Passenger, Question, Stop};
 use measures::{Amount, Metres};
 use planner::{Board, Lent, MOST_LEGS, Printout, Refusal, ask};
 use rule_table::{Rule, RuleTable};
-use scan::LabelStore;
+use scan::{LabelStore, StoredLabel};
 use sheet::{MOST_ROWS, Row, SHEET_BYTES, write};
 use std::test::*;
 use timetable::{Hop, HopList};
@@ -99,7 +99,7 @@ fn ask_over(trips: &[Hop]) -> Result<Printed, Fail> {
         stops: &[STOP, STOP],
         paths: &[],
     };
-    let mut labels = [Label::at_origin(0, 0, NO_FARE); 34];
+    let mut labels = [StoredLabel::blank(NO_FARE); 34];
     let mut aboard = [Passenger {
         state: NO_FARE,
         label: 0,

@@ -1,10 +1,10 @@
 use crate::printed::{BLANK_BYTE, BLANK_LEG};
 use fares::{FareState, Ladder};
-use journeys::{Label, Network, Passenger, Question, Stop};
+use journeys::{Network, Passenger, Question, Stop};
 use measures::{Amount, Metres, ZoneSet, Zones};
 use planner::{Board, Inquiry, Lent, MOST_LEGS, Printout, Refusal, Refused, compare};
 use rule_table::RuleTable;
-use scan::LabelStore;
+use scan::{LabelStore, StoredLabel};
 use sheet::SHEET_BYTES;
 use std::mem::replace;
 use std::test::*;
@@ -85,8 +85,8 @@ fn compare_makers(price: u32, labels: usize) -> Result<Result<bool, Refused>, Fa
         network: NETWORK,
         question: QUESTION,
     };
-    let mut store = [Label::at_origin(0, 0, NO_METERED); 2];
-    let mut other_store = [Label::at_origin(0, 0, NO_ZONED); 2];
+    let mut store = [StoredLabel::blank(NO_METERED); 2];
+    let mut other_store = [StoredLabel::blank(NO_ZONED); 2];
     let other_store = other_store
         .get_mut(..labels)
         .ok_or_else(|| Fail::new("more places than there are"))?;
@@ -153,7 +153,7 @@ fn compare_alike(store: &mut LabelStore<Zoned>) -> Result<Result<bool, Refused>,
         aboard: &mut [blank_passenger(NO_ZONED); 1],
         out,
     };
-    let mut other_places = [Label::at_origin(0, 0, NO_ZONED); 2];
+    let mut other_places = [StoredLabel::blank(NO_ZONED); 2];
     let mut other_sheet = [0; SHEET_BYTES];
     let mut other_legs = [BLANK_LEG; MOST_LEGS];
     let other_store = LabelStore::over(&mut other_places);
@@ -173,7 +173,7 @@ fn compare_alike(store: &mut LabelStore<Zoned>) -> Result<Result<bool, Refused>,
 
 #[test]
 fn a_question_is_put_twice(rt: HostRuntime) -> Result<(), Fail> {
-    let mut places = [Label::at_origin(0, 0, NO_ZONED); 2];
+    let mut places = [StoredLabel::blank(NO_ZONED); 2];
     let mut store = LabelStore::over(&mut places);
     assert_eq!(rt; compare_alike(&mut store)?, Ok(true));
     assert_eq!(rt; store.used(), 2);

@@ -1,8 +1,8 @@
 use day_planner::{Inquiry, ask_after};
 use fares::{FareState, LawfulMeasure, LawfulTariff, Measure, Tariff};
-use journeys::{Label, Leg, LegKind, Passenger};
+use journeys::{Leg, LegKind, Passenger};
 use planner::{Answer, Lent, MOST_LEGS, Printout};
-use scan::LabelStore;
+use scan::{LabelStore, StoredLabel};
 use sheet::SHEET_BYTES;
 use std::process::Abort;
 use std::test::Fail;
@@ -45,7 +45,7 @@ pub(crate) fn check_sheet(
 pub(crate) fn check_asked<T: Timetable + Drop, F: LawfulTariff + Drop, M: LawfulMeasure + Drop>(
     rt: &impl Abort,
     inquiry: Inquiry<T, F, M>,
-    labels: &mut [Label<FareState<F::Ticket, M::Weight>>],
+    labels: &mut [StoredLabel<FareState<F::Ticket, M::Weight>>],
     aboard: &mut [Passenger<FareState<F::Ticket, M::Weight>>],
     sheet: &[u8],
 ) -> Result<Answer, Fail> {

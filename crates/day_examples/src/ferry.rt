@@ -1,9 +1,9 @@
 use crate::asked::{LABELS, SEATS, blank_passenger, check_asked};
 use day_planner::{Entry, Inquiry};
 use ferry_cases::{NETWORK, QUESTION, hops, no_fare, tariff};
-use journeys::Label;
 use measures::Zones;
 use planner::Answer;
+use scan::StoredLabel;
 use std::process::Abort;
 use std::test::Fail;
 use timetable::HopList;
@@ -32,7 +32,7 @@ fn check_day(rt: &impl Abort, log: &[Entry], sheet: &[u8]) -> Result<Answer, Fai
         log,
         question: QUESTION,
     };
-    let mut labels = [Label::at_origin(0, 0, no_fare()); LABELS];
+    let mut labels = [StoredLabel::blank(no_fare()); LABELS];
     let mut aboard = [blank_passenger(no_fare()); SEATS];
     check_asked(rt, inquiry, &mut labels, &mut aboard, sheet)
 }

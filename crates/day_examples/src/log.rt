@@ -3,11 +3,11 @@ use crate::ferry::ONE_FERRY;
 use day_planner::{Entry, Planner, Refusal, Reply};
 use fares::Surcharge;
 use ferry_cases::{FerryState, NETWORK, QUESTION, hops, no_fare, tariff};
-use journeys::{Label, Question};
+use journeys::Question;
 use measures::Zones;
 use planner::{Answer, Lent, MOST_LEGS, Printout};
 use rule_table::RuleTable;
-use scan::LabelStore;
+use scan::{LabelStore, StoredLabel};
 use sheet::SHEET_BYTES;
 use std::process::Abort;
 use std::test::Fail;
@@ -107,7 +107,7 @@ fn entries() -> [Entry; ENTRIES] {
 
 // Runs the log or enters it, and asks the ferry's question then. (A closure for each of the two is no plainer.)
 fn answer_after(rt: &impl Abort, planner: &mut FerryPlanner, is_run: bool) -> Result<Answer, Fail> {
-    let mut labels = [Label::at_origin(0, 0, no_fare()); LABELS];
+    let mut labels = [StoredLabel::blank(no_fare()); LABELS];
     let mut aboard = [blank_passenger(no_fare()); SEATS];
     let mut sheet = [0; SHEET_BYTES];
     let mut legs = [BLANK_LEG; MOST_LEGS];

@@ -3,8 +3,9 @@ use crate::ferry::ONE_FERRY;
 use day_planner::{Entry, Inquiry};
 use fares::{FareState, Ladder, Marked};
 use ferry_cases::{NETWORK, QUESTION, hops, tariff};
-use journeys::{Label, Network, Question, Stop};
+use journeys::{Network, Question, Stop};
 use measures::{Amount, Both, Height, Level, Metres, Pair, Stops, ZoneSet, Zones};
+use scan::StoredLabel;
 use std::test::Fail;
 use timetable::{Hop, HopList, IntervalLine};
 
@@ -93,7 +94,7 @@ fn a_line_with_a_ladder_after_a_log(rt: HostRuntime) -> Result<(), Fail> {
         ticket: 0,
         weight: NO_WEIGHT,
     };
-    let mut labels = [Label::at_origin(0, 0, fare); LABELS];
+    let mut labels = [StoredLabel::blank(fare); LABELS];
     let mut aboard = [blank_passenger(fare); SEATS];
     let sheet = [0x01, 0x0b, 0x44, 0x07, 0xc8];
     let answer = check_asked(&rt, inquiry, &mut labels, &mut aboard, &sheet)?;
@@ -124,7 +125,7 @@ fn the_ferry_measured_in_every_way_after_a_log(rt: HostRuntime) -> Result<(), Fa
         },
         weight: NO_WEIGHT,
     };
-    let mut labels = [Label::at_origin(0, 0, fare); LABELS];
+    let mut labels = [StoredLabel::blank(fare); LABELS];
     let mut aboard = [blank_passenger(fare); SEATS];
     let answer = check_asked(&rt, inquiry, &mut labels, &mut aboard, &ONE_FERRY)?;
     assert_eq!(rt; answer.legs, 4);

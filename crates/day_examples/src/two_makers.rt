@@ -1,11 +1,11 @@
 use crate::asked::{BLANK_LEG, blank_passenger};
 use day_planner::{Entry, Inquiry, Refused, compare};
 use fares::{FareState, Ladder};
-use journeys::{Label, Network, Question, Stop};
+use journeys::{Network, Question, Stop};
 use measures::{Amount, Metres, ZoneSet, Zones};
 use planner::{Lent, MOST_LEGS, Printout, Refusal};
 use rule_table::RuleTable;
-use scan::LabelStore;
+use scan::{LabelStore, StoredLabel};
 use sheet::SHEET_BYTES;
 use std::process::Abort;
 use std::test::Fail;
@@ -148,8 +148,8 @@ fn compare_makers(
     let ladder = Ladder::open(second.price, 50)?;
     // Three trips, 1200 seconds apart.
     let line = IntervalLine::open(second.ride, 1200, 3)?;
-    let mut labels = [Label::at_origin(0, 0, NO_METERED); MOST_LABELS];
-    let mut other_labels = [Label::at_origin(0, 0, NO_ZONED); MOST_LABELS];
+    let mut labels = [StoredLabel::blank(NO_METERED); MOST_LABELS];
+    let mut other_labels = [StoredLabel::blank(NO_ZONED); MOST_LABELS];
     let mut sheet = [0; SHEET_BYTES];
     let mut legs = [BLANK_LEG; MOST_LEGS];
     let mut other_sheet = [0; SHEET_BYTES];

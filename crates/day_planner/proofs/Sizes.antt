@@ -22,6 +22,8 @@ use Rattle.journeys.proofs.Filled.{Throughout, StoreFew, StoreFilled, scan_fille
 use Rattle.sheet.specs.Format.{encode}
 use Rattle.sheet.specs.Rows.{most_rows}
 use Rattle.sheet.proofs.Sheets.{encode_le}
+use Rattle.scan.specs.Chains.{linked}
+use Rattle.scan.proofs.Chains.{length_linked}
 use Rattle.planner.specs.declared.refusal.Refusal.{Refusal}
 use Rattle.planner.specs.declared.refusal.Refusal.TheVariants.{ManyOffers}
 use Rattle.planner.specs.Handout.{row_of, legs_from}
@@ -109,7 +111,7 @@ module _ {S : Type 0} (f : FareModel S) (hops : List Hop) (stops : List Stop) (p
 
   -- what a stage has used is as long as before, where the store fits and there are as many places as before
   used_sizes : (written : ℕ) (s : Stage S) → StoreFew f room s → length s.places ≡ length m.aboard → SameSizes m (used written s m)
-  used_sizes written s few e = record { labels = overlay_length s.store m.labels few; aboard = e; sheet = refl; legs = refl }
+  used_sizes written s few e = record { labels = overlay_length (linked s.store) m.labels (omega (arith, few, length_linked 0 s.store)); aboard = e; sheet = refl; legs = refl }
 
   -- A scan that has come to its end has the endless scan's store. So where there are at most 32 best offers, their sheet
   -- takes at most the 225 bytes that a question without a fault has, and their legs fit too. Where there are more,

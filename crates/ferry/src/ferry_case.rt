@@ -1,8 +1,8 @@
 use ferry_cases::{NETWORK, QUESTION, hops, no_fare, tariff};
-use journeys::{Label, Leg, Passenger};
+use journeys::{Leg, Passenger};
 use measures::Zones;
 use planner::{Answer, Board, Lent, Printout, ask};
-use scan::LabelStore;
+use scan::{LabelStore, StoredLabel};
 use timetable::HopList;
 
 const LABELS: usize = 64;
@@ -19,7 +19,7 @@ pub fn ask_ferry(sheet: &mut [u8], legs: &mut [Leg]) -> anyhow::Result<Answer> {
         tariff: &tariff,
         measure: &Zones {},
     };
-    let mut labels = [Label::at_origin(0, 0, no_fare()); LABELS];
+    let mut labels = [StoredLabel::blank(no_fare()); LABELS];
     let mut aboard = [Passenger {
         state: no_fare(),
         label: 0,

@@ -11,13 +11,13 @@ use Rattle.measures.specs.Shown.{readings}
 use Rattle.measures.specs.ZoneSets.{zones_model}
 use Rattle.rule_table.specs.declared.rule.Rule.{Rule}
 use Rattle.rule_table.specs.RuleTables.{table_model}
-use Rattle.journeys.specs.declared.label.Label.{Label}
 use Rattle.journeys.specs.declared.label.Passenger.{Passenger}
-use Rattle.journeys.specs.declared.label.Way.TheVariants.{Origin}
 use Rattle.journeys.specs.declared.leg.Leg.{Leg}
 use Rattle.journeys.specs.declared.leg.LegKind.TheVariants.{Walk}
 use Rattle.journeys.specs.declared.network.Stop.{Stop}
 use Rattle.journeys.specs.declared.question.Question.{Question}
+use Rattle.scan.specs.declared.stored_label.StoredLabel.{StoredLabel}
+use Rattle.scan.specs.Chains.{blank_label}
 use Rattle.sheet.specs.Format.{sheet_bytes}
 use Rattle.planner.specs.Limits.{most_legs}
 use Rattle.planner.specs.Outcome.{Memory}
@@ -94,8 +94,8 @@ abbrev pub no_fare : FerryState
 no_fare = record { ticket = record { below = 0; marked = false }; weight = zones_model.neutral }
 
 -- a blank place of the label store
-abbrev pub no_label : Label FerryState
-no_label = record { stop = 0; time = 0; rides = 0; state = no_fare; way = Origin }
+abbrev pub no_label : StoredLabel FerryState
+no_label = blank_label no_fare
 
 -- a blank place of the list of those aboard
 abbrev pub no_passenger : Passenger FerryState

@@ -121,7 +121,7 @@ module _ {S : Type 0} (f : FareModel S) (room : Room) (hops : List Hop) (paths :
   abbrev pub scan : Label S → List (Passenger S) → ℕ → Run (Stage S)
   scan origin held limit = and_then (within (with_store (blank held)) (offer f room.labels origin [])) (λ s. rounds s (suc limit))
 
--- the scan for a question, over lists that hold these labels and passengers
-abbrev pub scan_for : {S : Type 0} → FareModel S → List Hop → List Footpath → Question → List (Label S) → List (Passenger S) → Run (Stage S)
+-- the scan for a question, over these places for labels, whatever they hold, and places that hold these passengers
+abbrev pub scan_for : {S X : Type 0} → FareModel S → List Hop → List Footpath → Question → List X → List (Passenger S) → Run (Stage S)
 scan_for f hops paths q labels held =
     scan f (record { labels = length labels; aboard = length held }) hops paths (label_at_origin f q.origin q.departure) held q.rides

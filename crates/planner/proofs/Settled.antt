@@ -77,7 +77,7 @@ module _ {S : Type 0} (f : FareModel S) (q : Asked) (stops : List Stop) (paths :
   }
 
   -- where no list was full, the store is the endless scan's
-  pub store_is : (labels : List (Label S)) (held : List (Passenger S)) (s : Stage S) → scan_for f hops paths q labels held ≡ on s → s.store ≡ scan∞ w q.rides
+  pub store_is : {X : Type 0} (labels : List X) (held : List (Passenger S)) (s : Stage S) → scan_for f hops paths q labels held ≡ on s → s.store ≡ scan∞ w q.rides
   store_is labels held s e = (subst (λ r. Along w (record { labels = length labels; aboard = length held }) r (scan∞ w q.rides) (most_aboard∞ w q.rides)) e (scan_along w (record { labels = length labels; aboard = length held }) lim.count held q.rides)).0
 
   abbrev st : List (Label S)

@@ -7,7 +7,6 @@ use Rattle.fares.specs.Measures.{MeasureModel}
 use Rattle.fares.specs.Tariffs.{TariffModel}
 use Rattle.journeys.specs.declared.full.Full.{Full}
 use Rattle.journeys.specs.declared.full.Full.TheVariants.{Store, Aboard}
-use Rattle.journeys.specs.declared.label.Label.{Label}
 use Rattle.journeys.specs.declared.label.Passenger.{Passenger}
 use Rattle.journeys.specs.declared.leg.Leg.{Leg}
 use Rattle.journeys.specs.declared.network.Footpath.{Footpath}
@@ -18,6 +17,8 @@ use Rattle.journeys.specs.NetworkFare.{fare_over}
 use Rattle.journeys.specs.Runs.{Run, on, ended, overlay}
 use Rattle.journeys.specs.Scan.{Stage, scan_for}
 use Rattle.journeys.specs.Selection.{best_offers}
+use Rattle.scan.specs.declared.stored_label.StoredLabel.{StoredLabel}
+use Rattle.scan.specs.Chains.{linked}
 use Rattle.sheet.specs.Format.{encode}
 use Rattle.sheet.specs.Outcome.{laid}
 use Rattle.sheet.specs.Rows.{most_rows}
@@ -29,7 +30,7 @@ use Rattle.planner.specs.Limits.{fault_of}
 
 -- the four lists, and how many labels the store counts as written
 pub record Memory (S : Type 0) : Type 0 where
-  pub labels : List (Label S)
+  pub labels : List (StoredLabel S)
   pub written : ℕ
   pub aboard : List (Passenger S)
   pub sheet : List ℕ
@@ -43,14 +44,15 @@ pub record Outcome (S : Type 0) : Type 0 where
 abbrev pub refused : {S : Type 0} → Refusal → Memory S → Outcome S
 refused refusal m = record { answer = Err refusal; left = m }
 
--- the scan's two lists, once it has come to a stage, where so many labels count as written
+-- the scan's two lists, once it has come to a stage, where so many labels count as written; each of them has the place of the
+-- next at its stop
 abbrev pub used : {S : Type 0} → ℕ → Stage S → Memory S → Memory S
-used written s m = record { labels = overlay s.store m.labels; written = written; aboard = s.places; sheet = m.sheet; legs = m.legs }
+used written s m = record { labels = overlay (linked s.store) m.labels; written = written; aboard = s.places; sheet = m.sheet; legs = m.legs }
 
 -- the sheet and the legs of the best offers, in front of what else the lists hold
 abbrev pub printed : {S : Type 0} → FareModel S → ℕ → Stage S → Memory S → Memory S
 printed f dest s m = record {
-  labels = overlay s.store m.labels;
+  labels = overlay (linked s.store) m.labels;
   written = length s.store;
   aboard = s.places;
   sheet = laid (encode (map row_of (best_offers f dest s.store))) m.sheet;
@@ -99,7 +101,7 @@ asked_of tariff measure hops stops paths q m = asked (fare_over tariff measure s
 
 -- A call answers a, and leaves these labels, of which so many count as written, passengers, bytes and legs: that is the
 -- outcome o.
-pub record Leaves {S : Type 0} (o : Outcome S) (a : Result Answer Refusal) (ls : List (Label S)) (n : ℕ) (ps : List (Passenger S)) (bytes : List ℕ) (walked : List Leg) : Type 0 where
+pub record Leaves {S : Type 0} (o : Outcome S) (a : Result Answer Refusal) (ls : List (StoredLabel S)) (n : ℕ) (ps : List (Passenger S)) (bytes : List ℕ) (walked : List Leg) : Type 0 where
   pub answer : a ≡ o.answer
   pub labels : ls ≡ o.left.labels
   pub written : n ≡ o.left.written

@@ -3,6 +3,7 @@ ghost use Rattle.std.specs.Result.{result_err};
 ghost use Rattle.short_list.specs.Items.{items};
 ghost use Rattle.journeys.specs.Lists.{Each};
 ghost use Rattle.journeys.specs.Scan.{scan_for};
+ghost use Rattle.scan.specs.Chains.{labels_in};
 ghost use Rattle.sheet.specs.Format.{encode};
 ghost use Rattle.sheet.specs.Outcome.{laid};
 ghost use Rattle.sheet.specs.Rows.{Good};
@@ -57,14 +58,14 @@ fn print_offers<S: Copy>(
     out: &mut Printout,
 ) -> Answer
     requires good { Good (map row_of (items offers.now)) }
-    requires each { Each (λ o. o.label < length traces.now.labels.now) (items offers.now) }
+    requires each { Each (λ o. o.label < length (labels_in traces.now.labels.now)) (items offers.now) }
     requires sheet_fits { 225 ≤ length out.old.sheet.now }
-    requires legs_fit { length (legs_from traces.now.labels.now 0 (items offers.now)) ≤ length out.old.legs.now }
-    ensures answer { result ≡ record { rows = length (items offers.now); labels = length traces.now.labels.now; bytes = length (encode (map row_of (items offers.now))); legs = length (legs_from traces.now.labels.now 0 (items offers.now)) } }
+    requires legs_fit { length (legs_from (labels_in traces.now.labels.now) 0 (items offers.now)) ≤ length out.old.legs.now }
+    ensures answer { result ≡ record { rows = length (items offers.now); labels = length (labels_in traces.now.labels.now); bytes = length (encode (map row_of (items offers.now))); legs = length (legs_from (labels_in traces.now.labels.now) 0 (items offers.now)) } }
     ensures sheet { out.new.sheet.now ≡ laid (encode (map row_of (items offers.now))) out.old.sheet.now }
     ensures same_sheet { out.new.sheet.ghost_name ≡ out.old.sheet.ghost_name }
     ensures same_legs { out.new.legs.ghost_name ≡ out.old.legs.ghost_name }
-    ensures legs { out.new.legs.now ≡ laid (legs_from traces.now.labels.now 0 (items offers.now)) out.old.legs.now }
+    ensures legs { out.new.legs.now ≡ laid (legs_from (labels_in traces.now.labels.now) 0 (items offers.now)) out.old.legs.now }
 {
     let bytes = write(rows_of(offers).as_slice(), out.sheet).unwrap();
     let legs = traces.trace_all(offers.as_slice(), out.legs);

@@ -3,6 +3,7 @@ ghost use Rattle.short_list.specs.Items.{items};
 ghost use Rattle.journeys.specs.Lists.{Each};
 ghost use Rattle.planner.specs.Handout.{row_of, legs_from};
 ghost use Rattle.planner.specs.Tracing.{Backward};
+ghost use Rattle.scan.specs.Chains.{labels_in};
 ghost use Rattle.sheet.specs.Outcome.{laid};
 
 use crate::tracing::Traces;
@@ -38,10 +39,10 @@ impl<'a, S: Copy> Traces<'a, S> {
     // Writes the legs of each offer's journey, row by row, and answers how many there are.
     pub(crate) fn trace_all(&self, offers: &[BestOffer], legs: &mut [Leg]) -> usize
         requires few { length offers.now ≤ 32 }
-        requires each { Each (λ o. o.label < length self.now.labels.now) offers.now }
-        requires legs_fit { length (legs_from self.now.labels.now 0 offers.now) ≤ length legs.old }
-        ensures end { result ≡ length (legs_from self.now.labels.now 0 offers.now) }
-        ensures legs { legs.new ≡ laid (legs_from self.now.labels.now 0 offers.now) legs.old }
+        requires each { Each (λ o. o.label < length (labels_in self.now.labels.now)) offers.now }
+        requires legs_fit { length (legs_from (labels_in self.now.labels.now) 0 offers.now) ≤ length legs.old }
+        ensures end { result ≡ length (legs_from (labels_in self.now.labels.now) 0 offers.now) }
+        ensures legs { legs.new ≡ laid (legs_from (labels_in self.now.labels.now) 0 offers.now) legs.old }
     {
         let mut end = 0;
         for (row, offer) in offers.iter().enumerate() {

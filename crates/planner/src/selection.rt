@@ -3,10 +3,12 @@ ghost use Rattle.std.specs.Result.{result_map_both};
 ghost use Rattle.short_list.specs.Items.{items};
 ghost use Rattle.journeys.specs.Offers.{fee};
 ghost use Rattle.planner.specs.Selecting.{selected};
+ghost use Rattle.scan.specs.Chains.{labels_in};
 ghost use Rattle.journeys.specs.Selection.{before, first_of, picking_one, pick as pick_among, best_offers};
 
 use crate::refusal::Refusal;
 use journeys::{BestOffer, Fare, Label};
+use scan::StoredLabel;
 use sheet::MOST_ROWS;
 use short_list::ShortList;
 
@@ -67,15 +69,15 @@ fn pick_one<F: Fare>(
 // The first offer, by arrival and then price, of those that cost less than the bound.
 fn pick<F: Fare>(
     fare: &F,
-    labels: &[Label<F::State>],
+    labels: &[StoredLabel<F::State>],
     destination: u32,
     bound: u32,
 ) -> Option<BestOffer>
-    ensures { result ≡ pick_among (F.Fare.model fare.now) destination bound labels.now }
+    ensures { result ≡ pick_among (F.Fare.model fare.now) destination bound (labels_in labels.now) }
 {
     let mut found = None;
-    for (place, label) in labels.iter().enumerate() {
-        found = pick_one(fare, destination, bound, place, label, found);
+    for (place, stored) in labels.iter().enumerate() {
+        found = pick_one(fare, destination, bound, place, &stored.label, found);
     }
     found
 }
@@ -83,10 +85,10 @@ fn pick<F: Fare>(
 // The best offers, where a sheet can hold as many as there are.
 pub(crate) fn select<F: Fare>(
     fare: &F,
-    labels: &[Label<F::State>],
+    labels: &[StoredLabel<F::State>],
     destination: u32,
 ) -> Result<ShortList<BestOffer, MOST_ROWS>, Refusal>
-    ensures { result_map_both items (λ e. e) result ≡ selected (best_offers (F.Fare.model fare.now) destination labels.now) }
+    ensures { result_map_both items (λ e. e) result ≡ selected (best_offers (F.Fare.model fare.now) destination (labels_in labels.now)) }
 {
     let mut offers = ShortList::empty(BestOffer {
         arrival: 0,

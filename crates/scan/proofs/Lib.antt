@@ -1,3 +1,11 @@
+pub mod Chains
+pub mod Stores
+pub mod PathTables
+pub mod Slots
+pub mod Walks
+pub mod Boarders
 pub mod Loops
 pub mod Filling
+pub mod Extending
 pub mod Stages
+pub mod Walkers

@@ -1,5 +1,5 @@
 -- What the two lent lists hold after a step of the scan. Assumes nothing.
-use Rattle.std.proofs.Common.{◌≡◌, ℕ, zero, suc, ◌+◌, ◌<◌, ◌≤◌, ltb, List, map, length, get_or, take, Some, None, Ok, Err, Result, sym, refl, ap, ◌∙◌, subst, inl, inr, arith, add-one, length-append, length-drop}
+use Rattle.std.proofs.Common.{◌≡◌, ℕ, zero, suc, ◌+◌, ◌<◌, ◌≤◌, ltb, List, [], map, length, get_or, take, Some, None, Ok, Err, Result, sym, refl, ap, ◌∙◌, subst, inl, inr, arith, add-one, length-append, length-drop}
 use lib.ListN.{length-map}
 use Rattle.std.specs.List.{slice_get}
 use Rattle.std.proofs.lemmas.Bool.{cond-true, cases_eq, lt-ltb}
@@ -16,30 +16,33 @@ use Rattle.journeys.specs.Runs.{Run, on, ended, and_then, within, run_each, over
 use Rattle.journeys.specs.Scan.{no_hop, passed, Room, Stage, offer, board, alight, kept, with_aboard, with_store, boarding, alighting, riding, pass_hop, pass_hops, round, rounds, blank, scan}
 use Rattle.scan.specs.declared.filled.Filled.{Filled}
 use Rattle.scan.specs.declared.ride.Ride.{Ride}
+use Rattle.scan.specs.declared.store.Store.{Store}
 use Rattle.scan.specs.Filling.{filled, Kept, ran}
-use Rattle.scan.specs.Stages.{stage, room, stage_of, room_of, Carried}
+use Rattle.scan.specs.Stages.{stage, room, stage_of, room_for, Carried}
+use Rattle.scan.specs.Stores.{Extended, labels_of, room_of}
 use Rattle.scan.proofs.Loops.{take_overlay}
-use Rattle.scan.proofs.Filling.{kept_then, length_filled}
+use Rattle.scan.proofs.Extending.{extended_then}
+use Rattle.scan.proofs.Filling.{length_filled}
 
 module _ {S : Type 0} where
   pub carried_then : (a b c : Ride S) → Carried a b → Carried b c → Carried a c
   carried_then a b c p q = record {
-    labels = kept_then a.labels.now b.labels.now c.labels.now p.labels q.labels;
+    labels = extended_then a.labels.now b.labels.now c.labels.now p.labels q.labels;
     same = q.same ∙ p.same;
     room = q.room ∙ p.room;
     same_labels = q.same_labels ∙ p.same_labels;
     same_aboard = q.same_aboard ∙ p.same_aboard;
   }
 
-  pub same_room : (a b : Ride S) → Carried a b → room_of b ≡ room_of a
+  pub same_room : (a b : Ride S) → Carried a b → room_for b ≡ room_for a
   same_room a b p = λ v. record { labels = p.labels.room v; aboard = p.room v }
 
   -- a run of those aboard, or of the labels, in the whole stage
-  in_aboard : (trip : ℕ) (labels : Filled (Label S)) (old new : Filled (Passenger S)) (o : Result (Unit {0}) Full) → Kept old new → within (with_aboard (stage trip labels old)) (ran o (filled new)) ≡ ran o (stage trip labels new)
-  in_aboard trip labels old new (Ok done) k = ap (λ places. on (record { trip = trip; aboard = filled new; places = places; store = filled labels })) (sym k.behind)
-  in_aboard trip labels old new (Err q) k = ap (λ places. ended q (record { trip = trip; aboard = filled new; places = places; store = filled labels })) (sym k.behind)
+  in_aboard : (trip : ℕ) (labels : Store S) (old new : Filled (Passenger S)) (o : Result (Unit {0}) Full) → Kept old new → within (with_aboard (stage trip labels old)) (ran o (filled new)) ≡ ran o (stage trip labels new)
+  in_aboard trip labels old new (Ok done) k = ap (λ places. on (record { trip = trip; aboard = filled new; places = places; store = labels_of labels })) (sym k.behind)
+  in_aboard trip labels old new (Err q) k = ap (λ places. ended q (record { trip = trip; aboard = filled new; places = places; store = labels_of labels })) (sym k.behind)
 
-  pub in_labels : (trip : ℕ) (old new : Filled (Label S)) (aboard : Filled (Passenger S)) (o : Result (Unit {0}) Full) → within (with_store (stage trip old aboard)) (ran o (filled new)) ≡ ran o (stage trip new aboard)
+  pub in_labels : (trip : ℕ) (old new : Store S) (aboard : Filled (Passenger S)) (o : Result (Unit {0}) Full) → within (with_store (stage trip old aboard)) (ran o (labels_of new)) ≡ ran o (stage trip new aboard)
   in_labels trip old new aboard (Ok done) = refl
   in_labels trip old new aboard (Err q) = refl
 
@@ -56,23 +59,21 @@ module _ {X : Type 0} (r : X → X) (old new : Filled X) (used : new.used ≡ ol
 
 module _ {S : Type 0} (f : FareModel S) (k i : ℕ) (h : Hop) (old : Ride S) (mid : Ride S) (kept_is : stage_of mid ≡ kept h (stage_of old)) (carried : Carried old mid) where
   -- where those aboard lie once all have boarded
-  pub riding_from : (ab : Filled (Passenger S)) (o : Result (Unit {0}) Full) (seen : List (Label S)) → seen ≡ filled mid.labels.now
-      → run_each (board f (length mid.aboard.now.places.now) k i h) 0 seen (filled mid.aboard.now) ≡ ran o (filled ab) → Kept mid.aboard.now ab
-      → riding f (room_of old) k i h (stage_of old) ≡ and_then (ran o (stage mid.trip mid.labels.now ab)) (λ t. alighting f (room_of old) k i h (with_aboard t (map (rides_on f h) t.aboard)))
-  riding_from ab o seen all run fills =
-      ap (λ b. and_then b (λ t. alighting f (room_of old) k i h (with_aboard t (map (rides_on f h) t.aboard))))
+  pub riding_from : (ab : Filled (Passenger S)) (o : Result (Unit {0}) Full) → run_each (board f (length mid.aboard.now.places.now) k i h) 0 (labels_of mid.labels.now) (filled mid.aboard.now) ≡ ran o (filled ab) → Kept mid.aboard.now ab
+      → riding f (room_for old) k i h (stage_of old) ≡ and_then (ran o (stage mid.trip mid.labels.now ab)) (λ t. alighting f (room_for old) k i h (with_aboard t (map (rides_on f h) t.aboard)))
+  riding_from ab o run fills =
+      ap (λ b. and_then b (λ t. alighting f (room_for old) k i h (with_aboard t (map (rides_on f h) t.aboard))))
       ((λ v. boarding f (sym (same_room old mid carried) v) k i h (sym kept_is v))
-      ∙ ap (λ l. within (with_aboard (stage_of mid)) (run_each (board f (length mid.aboard.now.places.now) k i h) 0 l (filled mid.aboard.now))) (sym all)
       ∙ ap (within (with_aboard (stage_of mid))) run ∙ in_aboard mid.trip mid.labels.now mid.aboard.now ab o fills)
 
-  pub alighting_run : (ab rode : Filled (Passenger S)) (ls : Filled (Label S)) (o : Result (Unit {0}) Full)
+  pub alighting_run : (ab rode : Filled (Passenger S)) (ls : Store S) (o : Result (Unit {0}) Full)
       → rode.used ≡ ab.used → rode.places.now ≡ overlay (map (rides_on f h) (filled ab)) ab.places.now
-      → (seen : List (Passenger S)) → seen ≡ filled rode → run_each (alight f (length mid.labels.now.places.now) k i h) 0 seen (filled mid.labels.now) ≡ ran o (filled ls)
-      → alighting f (room_of old) k i h (with_aboard (stage mid.trip mid.labels.now ab) (map (rides_on f h) (filled ab))) ≡ ran o (stage mid.trip ls rode)
+      → (seen : List (Passenger S)) → seen ≡ filled rode → run_each (alight f (room_of mid.labels.now) k i h) 0 seen (labels_of mid.labels.now) ≡ ran o (labels_of ls)
+      → alighting f (room_for old) k i h (with_aboard (stage mid.trip mid.labels.now ab) (map (rides_on f h) (filled ab))) ≡ ran o (stage mid.trip ls rode)
   alighting_run ab rode ls o used places seen all run =
       let first = changed_first (rides_on f h) ab rode used places in
-      (λ v. alighting f (sym (same_room old mid carried) v) k i h (record { trip = mid.trip; aboard = sym first v; places = sym places v; store = filled mid.labels.now }))
-      ∙ ap (λ l. within (with_store (stage mid.trip mid.labels.now rode)) (run_each (alight f (length mid.labels.now.places.now) k i h) 0 l (filled mid.labels.now))) (sym all)
+      (λ v. alighting f (sym (same_room old mid carried) v) k i h (record { trip = mid.trip; aboard = sym first v; places = sym places v; store = labels_of mid.labels.now }))
+      ∙ ap (λ l. within (with_store (stage mid.trip mid.labels.now rode)) (run_each (alight f (room_of mid.labels.now) k i h) 0 l (labels_of mid.labels.now))) (sym all)
       ∙ ap (within (with_store (stage mid.trip mid.labels.now rode))) run ∙ in_labels mid.trip mid.labels.now ls rode o
 
 passed_few : (hs : List Hop) (k : ℕ) → passed hs k ≤ count_of hs
@@ -90,13 +91,13 @@ hop_there hs k i h =
 -- A run of so many steps, each from where those before it have come to: `step` takes the rooms as an argument, which stay.
 module _ {S : Type 0} (run : Room → ℕ → Run (Stage S)) (step : Room → ℕ → Stage S → Run (Stage S)) (is : (c : Room) (i : ℕ) → run c (suc i) ≡ and_then (run c i) (step c i)) where
   pub record Came (start now : Ride S) (i : ℕ) : Type 0 where
-    pub stage : run (room_of start) i ≡ on (stage_of now)
+    pub stage : run (room_for start) i ≡ on (stage_of now)
     pub carried : Carried start now
 
-  pub comes : (start mid new : Ride S) (i : ℕ) (r : Run (Stage S)) → Came start mid i → step (room_of mid) i (stage_of mid) ≡ r → run (room_of start) (i + 1) ≡ r
-  comes start mid new i r c t = rw add-one (is (room_of start) i ∙ ap (λ b. and_then b (step (room_of start) i)) c.stage ∙ (λ v. step (sym (same_room start mid c.carried) v) i (stage_of mid)) ∙ t)
+  pub comes : (start mid new : Ride S) (i : ℕ) (r : Run (Stage S)) → Came start mid i → step (room_for mid) i (stage_of mid) ≡ r → run (room_for start) (i + 1) ≡ r
+  comes start mid new i r c t = rw add-one (is (room_for start) i ∙ ap (λ b. and_then b (step (room_for start) i)) c.stage ∙ (λ v. step (sym (same_room start mid c.carried) v) i (stage_of mid)) ∙ t)
 
-  pub comes_on : (start mid new : Ride S) (i : ℕ) → Came start mid i → step (room_of mid) i (stage_of mid) ≡ on (stage_of new) → Carried mid new → Came start new (i + 1)
+  pub comes_on : (start mid new : Ride S) (i : ℕ) → Came start mid i → step (room_for mid) i (stage_of mid) ≡ on (stage_of new) → Carried mid new → Came start new (i + 1)
   comes_on start mid new i c t k = record { stage = comes start mid new i (on (stage_of new)) c t; carried = carried_then start mid new c.carried k }
 
   stays : (c : Room) (q : Full) (s : Stage S) (i n : ℕ) → i ≤ n → run c i ≡ ended q s → run c n ≡ ended q s
@@ -106,8 +107,8 @@ module _ {S : Type 0} (run : Room → ℕ → Run (Stage S)) (step : Room → �
     | inr ne ↦ is c n ∙ ap (λ b. and_then b (step c n)) (stays c q s i n (omega arith) e)
   ]
 
-  pub ends : (start mid new : Ride S) (q : Full) (o : Result (Unit {0}) Full) (i n : ℕ) → i < n → Came start mid i → step (room_of mid) i (stage_of mid) ≡ ended q (stage_of new) → o ≡ Err q → run (room_of start) n ≡ ran o (stage_of new)
-  ends start mid new q o i n h c t z = stays (room_of start) q (stage_of new) (i + 1) n (omega arith) (comes start mid new i (ended q (stage_of new)) c t) ∙ ap (λ a. ran a (stage_of new)) (sym z)
+  pub ends : (start mid new : Ride S) (q : Full) (o : Result (Unit {0}) Full) (i n : ℕ) → i < n → Came start mid i → step (room_for mid) i (stage_of mid) ≡ ended q (stage_of new) → o ≡ Err q → run (room_for start) n ≡ ran o (stage_of new)
+  ends start mid new q o i n h c t z = stays (room_for start) q (stage_of new) (i + 1) n (omega arith) (comes start mid new i (ended q (stage_of new)) c t) ∙ ap (λ a. ran a (stage_of new)) (sym z)
 
 -- The hops of a round, each read from a timetable.
 module _ {S : Type 0} (f : FareModel S) (hops : List Hop) (k : ℕ) where
@@ -122,16 +123,16 @@ module _ {S : Type 0} (f : FareModel S) (hops : List Hop) (k : ℕ) where
   hop_read i hop h e = let t = hop_there hops k i h in cc
 
   pub passes_on : (start mid new : Ride S) (i : ℕ) (hop : Hop) → i < passed hops k → Some hop ≡ hop_at hops i → Passing start mid i
-      → pass_hop f (room_of mid) k i hop (stage_of mid) ≡ on (stage_of new) → Carried mid new → Passing start new (i + 1)
+      → pass_hop f (room_for mid) k i hop (stage_of mid) ≡ on (stage_of new) → Carried mid new → Passing start new (i + 1)
   passes_on start mid new i hop h e c t p =
       comes_on (λ c. pass_hops f c hops k (stage_of start)) (λ c i. pass_hop f c k i (get_or hops i no_hop)) (λ c i. refl) start mid new i c
-      (subst (λ (z : Hop). pass_hop f (room_of mid) k i z (stage_of mid) ≡ on (stage_of new)) (hop_read i hop h e) t) p
+      (subst (λ (z : Hop). pass_hop f (room_for mid) k i z (stage_of mid) ≡ on (stage_of new)) (hop_read i hop h e) t) p
 
   pub passing_ends : (start mid new : Ride S) (i : ℕ) (hop : Hop) (q : Full) (o : Result (Unit {0}) Full) → i < passed hops k → Some hop ≡ hop_at hops i → Passing start mid i
-      → pass_hop f (room_of mid) k i hop (stage_of mid) ≡ ended q (stage_of new) → o ≡ Err q → pass_hops f (room_of start) hops k (stage_of start) (passed hops k) ≡ ran o (stage_of new)
+      → pass_hop f (room_for mid) k i hop (stage_of mid) ≡ ended q (stage_of new) → o ≡ Err q → pass_hops f (room_for start) hops k (stage_of start) (passed hops k) ≡ ran o (stage_of new)
   passing_ends start mid new i hop q o h e c t =
       ends (λ c. pass_hops f c hops k (stage_of start)) (λ c i. pass_hop f c k i (get_or hops i no_hop)) (λ c i. refl) start mid new q o i (passed hops k) h c
-      (subst (λ (z : Hop). pass_hop f (room_of mid) k i z (stage_of mid) ≡ ended q (stage_of new)) (hop_read i hop h e) t)
+      (subst (λ (z : Hop). pass_hop f (room_for mid) k i z (stage_of mid) ≡ ended q (stage_of new)) (hop_read i hop h e) t)
 
 -- The rounds of a scan.
 module _ {S : Type 0} (f : FareModel S) (hops : List Hop) (paths : List Footpath) where
@@ -140,11 +141,11 @@ module _ {S : Type 0} (f : FareModel S) (hops : List Hop) (paths : List Footpath
   Done start = Came (λ c. rounds f c hops paths (stage_of start)) (λ c. round f c hops paths) (λ c i. refl) start
 
   -- the origin is written before them
-  pub scan_from : (old now : Filled (Label S)) (aboard : Filled (Passenger S)) (origin : Label S) (o : Result (Unit {0}) Full) (limit : ℕ) (r : Run (Stage S)) → old.used ≡ 0 → aboard.used ≡ 0
-      → offer f (length old.places.now) origin (filled old) ≡ ran o (filled now) → Kept old now → and_then (ran o (stage 0 now aboard)) (λ s. rounds f (room now aboard) hops paths s (limit + 1)) ≡ r
+  pub scan_from : (old now : Store S) (aboard : Filled (Passenger S)) (origin : Label S) (o : Result (Unit {0}) Full) (limit : ℕ) (r : Run (Stage S)) → labels_of old ≡ [] → aboard.used ≡ 0
+      → offer f (room_of old) origin (labels_of old) ≡ ran o (labels_of now) → Extended old now → and_then (ran o (stage 0 now aboard)) (λ s. rounds f (room now aboard) hops paths s (limit + 1)) ≡ r
       → scan f (room old aboard) hops paths origin aboard.places.now limit ≡ r
   scan_from old now aboard origin o limit r empty nobody t k u =
-      let start : stage 0 old aboard ≡ blank aboard.places.now = λ v. record { trip = 0; aboard = take (nobody v) aboard.places.now; places = aboard.places.now; store = take (empty v) old.places.now } in
-      (λ v. and_then (within (with_store (sym start v)) (offer f (length old.places.now) origin (sym start v).store)) (λ s. rounds f (room old aboard) hops paths s (sym (add-one limit) v)))
+      let start : stage 0 old aboard ≡ blank aboard.places.now = λ v. record { trip = 0; aboard = take (nobody v) aboard.places.now; places = aboard.places.now; store = empty v } in
+      (λ v. and_then (within (with_store (sym start v)) (offer f (room_of old) origin (sym start v).store)) (λ s. rounds f (room old aboard) hops paths s (sym (add-one limit) v)))
       ∙ ap (λ b. and_then (within (with_store (stage 0 old aboard)) b) (λ s. rounds f (room old aboard) hops paths s (limit + 1))) t
       ∙ (λ v. and_then (in_labels 0 old now aboard o v) (λ s. rounds f (record { labels = sym k.room v; aboard = length aboard.places.now }) hops paths s (limit + 1))) ∙ u

@@ -5,8 +5,10 @@ ghost use Rattle.std.specs.List.{list_any};
 ghost use Rattle.journeys.specs.Runs.{run_each};
 ghost use Rattle.journeys.specs.Scan.{seat as seat_run, board as board_run};
 ghost use Rattle.scan.specs.Filling.{filled, Kept, ran};
+ghost use Rattle.scan.specs.Stores.{Chained, labels_of};
 
 use crate::filled::Filled;
+use crate::store::Store;
 use crate::turn::Turn;
 use journeys::{Fare, Full, Label, Passenger};
 
@@ -51,8 +53,8 @@ fn may_board<S: Copy>(turn: &Turn, label: &Label<S>) -> bool
         & ((label.stop == turn.hop.from) & (label.time <= turn.hop.departure))
 }
 
-// The label at `from` boards, if it may. (`from` and `label` come as a pair from `enumerate`; a struct of them would be made
-// and taken apart at each step, and is no plainer.)
+// The label at `from` boards, if it may. (A struct of `from` and `label` would be made and taken apart at each step, and is no
+// plainer.)
 fn board<F: Fare>(
     fare: &F,
     turn: &Turn,
@@ -75,19 +77,22 @@ fn board<F: Fare>(
     seat(fare, turn.place, passenger, aboard)
 }
 
-// The labels board in store order.
-#[tactic(auto, using(crate::proofs::Filling::kept_then))]
+// The labels board in store order. Only those at the hop's stop may, so only their chain is looked at.
 pub(crate) fn board_all<F: Fare>(
     fare: &F,
     turn: &Turn,
-    labels: &[Label<F::State>],
+    labels: &Store<F::State>,
     aboard: &mut Filled<Passenger<F::State>>,
 ) -> Result<(), Full>
-    ensures run { run_each (board_run (F.Fare.model fare.now) (length aboard.old.places.now) turn.now.round turn.now.place turn.now.hop) 0 labels.now (filled aboard.old) ≡ ran result (filled aboard.new) }
+    requires chained { Chained labels.now }
+    ensures run { run_each (board_run (F.Fare.model fare.now) (length aboard.old.places.now) turn.now.round turn.now.place turn.now.hop) 0 (labels_of labels.now) (filled aboard.old) ≡ ran result (filled aboard.new) }
     ensures kept { Kept aboard.old aboard.new }
 {
-    for (from, label) in labels.iter().enumerate() {
-        board(fare, turn, from, label, aboard)?;
+    let mut at = labels.first_at(turn.hop.from);
+    while let Some(place) = at {
+        let stored = labels.label(place);
+        board(fare, turn, place, &stored.label, aboard)?;
+        at = stored.next;
     }
     Ok(())
 }

@@ -1,7 +1,9 @@
 ghost use Rattle.std.specs.Prelude.{◌≡◌};
 ghost use Rattle.journeys.specs.Labels.{came_on_foot, covers};
 ghost use Rattle.std.specs.List.{list_any};
+ghost use Rattle.scan.specs.Stores.{Chained, labels_of};
 
+use crate::store::Store;
 use journeys::{Fare, Label, Way};
 
 pub(crate) fn on_foot(way: Way) -> bool
@@ -23,19 +25,22 @@ fn label_covers<F: Fare>(fare: &F, label: &Label<F::State>, candidate: &Label<F:
                         & (!(label.rides == 0) | (candidate.rides == 0))))))
 }
 
-// Whether a label covers a candidate.
+// Whether a label covers a candidate. Only those at its stop can, so only their chain is looked at.
 pub(crate) fn is_covered<F: Fare>(
     fare: &F,
-    labels: &[Label<F::State>],
+    labels: &Store<F::State>,
     candidate: &Label<F::State>,
 ) -> bool
-    ensures { result ≡ list_any (λ l. covers (F.Fare.model fare.now) l candidate.now) labels.now }
+    requires chained { Chained labels.now }
+    ensures { result ≡ list_any (λ l. covers (F.Fare.model fare.now) l candidate.now) (labels_of labels.now) }
 {
-    // a loop, since with `any` a scan took a quarter longer
-    for label in labels {
-        if label_covers(fare, label, candidate) {
+    let mut at = labels.first_at(candidate.stop);
+    while let Some(place) = at {
+        let stored = labels.label(place);
+        if label_covers(fare, &stored.label, candidate) {
             return true;
         }
+        at = stored.next;
     }
     false
 }

@@ -1,16 +1,20 @@
-ghost use Rattle.std.specs.Prelude.{◌≡◌, ℕ, ◌+◌};
-ghost use Rattle.journeys.specs.Runs.{overlay};
+ghost use Rattle.std.specs.Prelude.{◌≡◌, ℕ, ◌+◌, []};
 ghost use Rattle.journeys.specs.Scan.{passed, emptied, kept, riding, pass_hop as pass_hop_run, pass_hops as pass_hops_run, round as round_run, rounds as rounds_run, scan_for};
-ghost use Rattle.scan.specs.Filling.{filled, ran};
-ghost use Rattle.scan.specs.Stages.{stage, stage_of, room_of, Carried};
+ghost use Rattle.journeys.specs.Runs.{overlay};
+ghost use Rattle.scan.specs.Chains.{linked};
+ghost use Rattle.scan.specs.Filling.{ran};
+ghost use Rattle.scan.specs.Stages.{stage, stage_of, room_for, Carried};
+ghost use Rattle.scan.specs.Stores.{Chained, labels_of};
 
 use crate::boarding::board_all;
 use crate::filled::Filled;
 use crate::offering::offer;
+use crate::path_table::PathTable;
 use crate::riding::{alight_all, ride_all};
+use crate::store::Store;
 use crate::turn::Turn;
 use crate::walking::walks;
-use journeys::{Fare, Footpath, Full, Label, Passenger, Question};
+use journeys::{Fare, Full, Label, Passenger, Question};
 use timetable::{Hop, Timetable};
 
 // What a scan reads beside the question.
@@ -18,14 +22,14 @@ use timetable::{Hop, Timetable};
 pub(crate) struct Given<'a, T, F> {
     pub(crate) timetable: &'a T,
     pub(crate) fare: &'a F,
-    pub(crate) paths: &'a [Footpath],
+    pub(crate) paths: &'a PathTable<'a>,
 }
 
 // A scan under way: the labels written, those aboard, and the trip that they are on. It is lent its
 // lists: of lists that it owned, nothing was known once it was over.
 #[derive(Drop)]
 pub(crate) struct Ride<'r, 'a, 'b, S> {
-    labels: &'r mut Filled<'a, Label<S>>,
+    labels: &'r mut Store<'a, S>,
     aboard: &'r mut Filled<'b, Passenger<S>>,
     trip: u32,
 }
@@ -39,7 +43,9 @@ fn hops_in_round<T: Timetable>(timetable: &T, round: u32) -> u32
 
 impl<'r, 'a, 'b, S: Copy> Ride<'r, 'a, 'b, S> {
     // Nobody is aboard any more.
+    #[tactic(auto, using(crate::proofs::Extending::extended_same))]
     fn empty(&mut self, trip: u32)
+        requires chained { Chained self.old.labels.now }
         ensures run { stage_of self.new ≡ emptied trip (stage_of self.old) }
         ensures carried { Carried self.old self.new }
     {
@@ -48,7 +54,9 @@ impl<'r, 'a, 'b, S: Copy> Ride<'r, 'a, 'b, S> {
     }
 
     // A new trip lets all off.
+    #[tactic(auto, using(crate::proofs::Extending::extended_same))]
     fn keep(&mut self, hop: &Hop)
+        requires chained { Chained self.old.labels.now }
         ensures run { stage_of self.new ≡ kept hop.now (stage_of self.old) }
         ensures carried { Carried self.old self.new }
     {
@@ -59,18 +67,20 @@ impl<'r, 'a, 'b, S: Copy> Ride<'r, 'a, 'b, S> {
 
     // A hop that runs: labels board, all aboard ride on, and all aboard are offered.
     fn ride<F: Fare<State = S>>(&mut self, fare: &F, turn: &Turn) -> Result<(), Full>
-        ensures run { riding (F.Fare.model fare.now) (room_of self.old) turn.now.round turn.now.place turn.now.hop (stage_of self.old) ≡ ran result (stage_of self.new) }
+        requires chained { Chained self.old.labels.now }
+        ensures run { riding (F.Fare.model fare.now) (room_for self.old) turn.now.round turn.now.place turn.now.hop (stage_of self.old) ≡ ran result (stage_of self.new) }
         ensures carried { Carried self.old self.new }
     {
         self.keep(&turn.hop);
-        board_all(fare, turn, self.labels.as_slice(), self.aboard)?;
+        board_all(fare, turn, self.labels, self.aboard)?;
         ride_all(fare, &turn.hop, self.aboard);
         alight_all(fare, turn, self.aboard.as_slice(), self.labels)
     }
 
     // One that does not run lets all off.
     fn pass_hop<F: Fare<State = S>>(&mut self, fare: &F, turn: &Turn) -> Result<(), Full>
-        ensures run { pass_hop_run (F.Fare.model fare.now) (room_of self.old) turn.now.round turn.now.place turn.now.hop (stage_of self.old) ≡ ran result (stage_of self.new) }
+        requires chained { Chained self.old.labels.now }
+        ensures run { pass_hop_run (F.Fare.model fare.now) (room_for self.old) turn.now.round turn.now.place turn.now.hop (stage_of self.old) ≡ ran result (stage_of self.new) }
         ensures carried { Carried self.old self.new }
     {
         if !turn.hop.runs {
@@ -87,7 +97,8 @@ impl<'r, 'a, 'b, S: Copy> Ride<'r, 'a, 'b, S> {
         given: &Given<T, F>,
         round: u32,
     ) -> Result<(), Full>
-        ensures run { pass_hops_run (F.Fare.model given.now.fare.now) (room_of self.old) (T.Timetable.hops given.now.timetable.now) round (stage_of self.old) (passed (T.Timetable.hops given.now.timetable.now) round) ≡ ran result (stage_of self.new) }
+        requires chained { Chained self.old.labels.now }
+        ensures run { pass_hops_run (F.Fare.model given.now.fare.now) (room_for self.old) (T.Timetable.hops given.now.timetable.now) round (stage_of self.old) (passed (T.Timetable.hops given.now.timetable.now) round) ≡ ran result (stage_of self.new) }
         ensures carried { Carried self.old self.new }
     {
         self.empty(0);
@@ -107,7 +118,8 @@ impl<'r, 'a, 'b, S: Copy> Ride<'r, 'a, 'b, S> {
         given: &Given<T, F>,
         round: u32,
     ) -> Result<(), Full>
-        ensures run { round_run (F.Fare.model given.now.fare.now) (room_of self.old) (T.Timetable.hops given.now.timetable.now) given.now.paths.now round (stage_of self.old) ≡ ran result (stage_of self.new) }
+        requires chained { Chained self.old.labels.now }
+        ensures run { round_run (F.Fare.model given.now.fare.now) (room_for self.old) (T.Timetable.hops given.now.timetable.now) given.now.paths.now.paths.now round (stage_of self.old) ≡ ran result (stage_of self.new) }
         ensures carried { Carried self.old self.new }
     {
         self.pass_hops(given, round)?;
@@ -121,7 +133,8 @@ impl<'r, 'a, 'b, S: Copy> Ride<'r, 'a, 'b, S> {
         given: &Given<T, F>,
         limit: u32,
     ) -> Result<(), Full>
-        ensures run { rounds_run (F.Fare.model given.now.fare.now) (room_of self.old) (T.Timetable.hops given.now.timetable.now) given.now.paths.now (stage_of self.old) (limit + 1) ≡ ran result (stage_of self.new) }
+        requires chained { Chained self.old.labels.now }
+        ensures run { rounds_run (F.Fare.model given.now.fare.now) (room_for self.old) (T.Timetable.hops given.now.timetable.now) given.now.paths.now.paths.now (stage_of self.old) (limit + 1) ≡ ran result (stage_of self.new) }
         ensures carried { Carried self.old self.new }
     {
         // a round is its number, and no element of a list
@@ -136,13 +149,14 @@ impl<'r, 'a, 'b, S: Copy> Ride<'r, 'a, 'b, S> {
 pub(crate) fn scan<T: Timetable, F: Fare>(
     given: &Given<T, F>,
     question: &Question,
-    labels: &mut Filled<Label<F::State>>,
+    labels: &mut Store<F::State>,
     aboard: &mut Filled<Passenger<F::State>>,
 ) -> Result<(), Full>
-    requires unwritten { labels.old.used ≡ 0 }
+    requires chained { Chained labels.old }
+    requires unwritten { labels_of labels.old ≡ [] }
     requires nobody { aboard.old.used ≡ 0 }
-    ensures run { (trip : ℕ) × (scan_for (F.Fare.model given.now.fare.now) (T.Timetable.hops given.now.timetable.now) given.now.paths.now question.now labels.old.places.now aboard.old.places.now ≡ ran result (stage trip labels.new aboard.new)) }
-    ensures labels { labels.new.places.now ≡ overlay (filled labels.new) labels.old.places.now }
+    ensures run { (trip : ℕ) × (scan_for (F.Fare.model given.now.fare.now) (T.Timetable.hops given.now.timetable.now) given.now.paths.now.paths.now question.now labels.old.places.now aboard.old.places.now ≡ ran result (stage trip labels.new aboard.new)) }
+    ensures labels { labels.new.places.now ≡ overlay (linked (labels_of labels.new)) labels.old.places.now }
     ensures same_labels { labels.new.places.ghost_name ≡ labels.old.places.ghost_name }
     ensures same_aboard { aboard.new.places.ghost_name ≡ aboard.old.places.ghost_name }
 {

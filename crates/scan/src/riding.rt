@@ -1,11 +1,13 @@
-ghost use Rattle.std.specs.Prelude.{◌≡◌, map, length};
+ghost use Rattle.std.specs.Prelude.{◌≡◌, map};
 ghost use Rattle.journeys.specs.Labels.{label_by_ride, rides_on};
 ghost use Rattle.journeys.specs.Runs.{run_each, overlay};
 ghost use Rattle.journeys.specs.Scan.{alight};
-ghost use Rattle.scan.specs.Filling.{filled, Kept, ran};
+ghost use Rattle.scan.specs.Filling.{filled, ran};
+ghost use Rattle.scan.specs.Stores.{Chained, Extended, labels_of, room_of};
 
 use crate::filled::Filled;
 use crate::offering::offer;
+use crate::store::Store;
 use crate::turn::Turn;
 use journeys::{Fare, Full, Label, Passenger, Way};
 use timetable::Hop;
@@ -44,10 +46,11 @@ pub(crate) fn alight_all<F: Fare>(
     fare: &F,
     turn: &Turn,
     aboard: &[Passenger<F::State>],
-    labels: &mut Filled<Label<F::State>>,
+    labels: &mut Store<F::State>,
 ) -> Result<(), Full>
-    ensures run { run_each (alight (F.Fare.model fare.now) (length labels.old.places.now) turn.now.round turn.now.place turn.now.hop) 0 aboard.now (filled labels.old) ≡ ran result (filled labels.new) }
-    ensures kept { Kept labels.old labels.new }
+    requires chained { Chained labels.old }
+    ensures run { run_each (alight (F.Fare.model fare.now) (room_of labels.old) turn.now.round turn.now.place turn.now.hop) 0 aboard.now (labels_of labels.old) ≡ ran result (labels_of labels.new) }
+    ensures extended { Extended labels.old labels.new }
 {
     for passenger in aboard {
         offer(fare, ride_label(turn, passenger), labels)?;

@@ -1,11 +1,13 @@
-ghost use Rattle.std.specs.Prelude.{◌≡◌, length};
+ghost use Rattle.std.specs.Prelude.{◌≡◌};
 ghost use Rattle.journeys.specs.Labels.{label_by_walk, fresh};
 ghost use Rattle.journeys.specs.Scan.{walk as walk_run, walk_on as walk_on_run, walks as walks_run};
-ghost use Rattle.scan.specs.Filling.{filled, Kept, ran};
+ghost use Rattle.scan.specs.Filling.{ran};
+ghost use Rattle.scan.specs.Stores.{Chained, Extended, labels_of, room_of};
 
 use crate::covering::on_foot;
-use crate::filled::Filled;
 use crate::offering::offer;
+use crate::path_table::PathTable;
+use crate::store::Store;
 use journeys::{Fare, Footpath, Full, Label, Way};
 
 // Whether a label was reached in this round, and not on foot.
@@ -35,10 +37,11 @@ fn walk<F: Fare>(
     label: &Label<F::State>,
     place: usize,
     path: &Footpath,
-    labels: &mut Filled<Label<F::State>>,
+    labels: &mut Store<F::State>,
 ) -> Result<(), Full>
-    ensures run { walk_run (F.Fare.model fare.now) (length labels.old.places.now) from label.now place path.now (filled labels.old) ≡ ran result (filled labels.new) }
-    ensures kept { Kept labels.old labels.new }
+    requires chained { Chained labels.old }
+    ensures run { walk_run (F.Fare.model fare.now) (room_of labels.old) from label.now place path.now (labels_of labels.old) ≡ ran result (labels_of labels.new) }
+    ensures extended { Extended labels.old labels.new }
 {
     if path.from != label.stop {
         return Ok(());
@@ -46,41 +49,45 @@ fn walk<F: Fare>(
     offer(fare, walk_label(from, label, place, path), labels)
 }
 
-// Offers all footpaths, in list order, from a label that this round has reached by a ride.
+// Offers the footpaths, in list order, from a label that this round has reached by a ride. Only those that begin at its stop lead
+// on from it, so only their chain is looked at.
 fn walk_on<F: Fare>(
     fare: &F,
-    paths: &[Footpath],
+    paths: &PathTable,
     round: u32,
     from: usize,
     label: &Label<F::State>,
-    labels: &mut Filled<Label<F::State>>,
+    labels: &mut Store<F::State>,
 ) -> Result<(), Full>
-    ensures run { walk_on_run (F.Fare.model fare.now) (length labels.old.places.now) paths.now round from label.now (filled labels.old) ≡ ran result (filled labels.new) }
-    ensures kept { Kept labels.old labels.new }
+    requires chained { Chained labels.old }
+    ensures run { walk_on_run (F.Fare.model fare.now) (room_of labels.old) paths.now.paths.now round from label.now (labels_of labels.old) ≡ ran result (labels_of labels.new) }
+    ensures extended { Extended labels.old labels.new }
 {
     if !is_fresh(round, label) {
         return Ok(());
     }
-    for (place, path) in paths.iter().enumerate() {
-        walk(fare, from, label, place, path, labels)?;
+    let mut at = paths.first_at(label.stop);
+    while let Some(place) = at {
+        walk(fare, from, label, place, paths.path(place), labels)?;
+        at = paths.next(place);
     }
     Ok(())
 }
 
 // The footpaths from the labels that this round has reached, in store order.
-#[tactic(auto, using(crate::proofs::Filling::kept_then))]
 pub(crate) fn walks<F: Fare>(
     fare: &F,
-    paths: &[Footpath],
+    paths: &PathTable,
     round: u32,
-    labels: &mut Filled<Label<F::State>>,
+    labels: &mut Store<F::State>,
 ) -> Result<(), Full>
-    ensures run { walks_run (F.Fare.model fare.now) (length labels.old.places.now) paths.now round (filled labels.old) ≡ ran result (filled labels.new) }
-    ensures kept { Kept labels.old labels.new }
+    requires chained { Chained labels.old }
+    ensures run { walks_run (F.Fare.model fare.now) (room_of labels.old) paths.now.paths.now round (labels_of labels.old) ≡ ran result (labels_of labels.new) }
+    ensures extended { Extended labels.old labels.new }
 {
     // an index: the walks write behind the labels that are read, and with no heap these cannot be copied first
     for from in 0..labels.len() {
-        let label = labels.as_slice()[from];
+        let label = labels.label(from).label;
         walk_on(fare, paths, round, from, &label, labels)?;
     }
     Ok(())

@@ -1,7 +1,9 @@
 //! Labels, and the scan that fills a label store.
 
+mod paths;
 mod stores;
 
+use paths::PathTable;
 pub use stores::{Chains, Columns, Rows, Store};
 
 use reference::network::{Network, Question, Room};
@@ -84,7 +86,8 @@ pub fn scan<F: Fares, L: Store<F::State>>(
     aboard: &mut Vec<Passenger<F::State>>,
 ) -> Result<(), Full> {
     store.clear(given.network.stops.len());
-    let mut scan = Scan { given, store, aboard };
+    let paths = PathTable::over(&given.network.paths, given.network.stops.len());
+    let mut scan = Scan { given, paths, store, aboard };
     scan.offer(given.origin())?;
     scan.walks(0)?;
     for round in 1..=given.question.rides {
@@ -96,6 +99,7 @@ pub fn scan<F: Fares, L: Store<F::State>>(
 
 struct Scan<'a, F: Fares, L> {
     given: &'a Given<'a, F>,
+    paths: PathTable,
     store: &'a mut L,
     aboard: &'a mut Vec<Passenger<F::State>>,
 }
@@ -181,12 +185,12 @@ impl<F: Fares, L: Store<F::State>> Scan<'_, F, L> {
     }
 
     fn walk(&mut self, from: u32, label: &Label<F::State>) -> Result<(), Full> {
-        for (path, footpath) in self.given.network.paths.iter().enumerate() {
-            if footpath.from == label.stop {
-                let time = label.time.saturating_add(footpath.seconds);
-                let way = Way::Walked { path: path as u32, from };
-                self.offer(Label { stop: footpath.to, time, way, ..*label })?;
-            }
+        let mut at = self.paths.first(label.stop);
+        while let Some(path) = at {
+            let footpath = self.given.network.paths[path as usize];
+            let time = label.time.saturating_add(footpath.seconds);
+            self.offer(Label { stop: footpath.to, time, way: Way::Walked { path, from }, ..*label })?;
+            at = self.paths.next(path);
         }
         Ok(())
     }

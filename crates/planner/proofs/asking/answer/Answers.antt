@@ -6,6 +6,8 @@ use Rattle.journeys.specs.Selection.{best_offers}
 use Rattle.journeys.proofs.Filled.{scan_filled}
 use Rattle.sheet.specs.Format.{encode}
 use Rattle.sheet.specs.Outcome.{laid}
+use Rattle.scan.specs.Chains.{labels_in}
+use Rattle.scan.proofs.Chains.{labels_linked}
 use Rattle.planner.specs.Handout.{row_of, legs_from}
 use Rattle.planner.specs.Lent.{memory_of}
 use Rattle.planner.specs.Outcome.{Memory, Leaves, scanned, refusal_of_scan}
@@ -38,8 +40,8 @@ returns-in_err-offers-clause-outcome g c =
     let r = scan_for f hops paths q m.labels m.aboard in
     let k = came_to f q.destination m r (sym (was_ok _ c.scan.result c.map_err.result tt c.map_err.ensures.cases c.in_ok-map_err.was) ∙ c.scan.ensures.answer) in
     let s = k.0 in
-    let found : c.written.result.now ≡ s.store = c.written.ensures ∙ store_written f q.destination m r s c.scan.new.self.used c.scan.new.self.labels.now k.1 c.scan.ensures.used c.scan.ensures.labels in
-    let best = best_offers f q.destination c.written.result.now in
+    let found : labels_in c.written.result.now ≡ s.store = ap labels_in (c.written.ensures ∙ store_written f q.destination m r s c.scan.new.self.used c.scan.new.self.labels.now k.1 c.scan.ensures.used c.scan.ensures.labels) ∙ labels_linked 0 s.store in
+    let best = best_offers f q.destination (labels_in c.written.result.now) in
     let many = many_offers best c.in_err-offers.field-0.0 c.in_err-offers.ensures in
     let told = err_is c.from_residual-in_err-offers.result c.in_err-offers.field-0.0 c.from_residual-in_err-offers.ensures.1 ∙ ap Err many.1 in
     subst (λ a. Leaves (scanned f q.destination m r) a c.scan.new.self.labels.now c.scan.new.self.used c.scan.new.aboard m.sheet m.legs) (sym told)
@@ -53,10 +55,10 @@ invariant_of-traces g c =
     let paths = c.args.network.now.paths.now in
     let m : Memory g.row.F-State.Denot = memory_of c.args.lent.now in
     let k = came_to f q.destination m (scan_for f hops paths q m.labels m.aboard) (sym (was_ok _ c.scan.result c.map_err.result tt c.map_err.ensures.cases c.in_ok-map_err.was) ∙ c.scan.ensures.answer) in
-    let again : c.written-2.result.now ≡ k.0.store = c.written-2.ensures ∙ store_written f q.destination m (scan_for f hops paths q m.labels m.aboard) k.0 c.scan.new.self.used c.scan.new.self.labels.now k.1 c.scan.ensures.used c.scan.ensures.labels in
+    let again : labels_in c.written-2.result.now ≡ k.0.store = ap labels_in (c.written-2.ensures ∙ store_written f q.destination m (scan_for f hops paths q m.labels m.aboard) k.0 c.scan.new.self.used c.scan.new.self.labels.now k.1 c.scan.ensures.used c.scan.ensures.labels) ∙ labels_linked 0 k.0.store in
     let lim = limits q c.args.network.now.stops.now paths hops (length m.sheet) (length m.legs) c.requires in
     let is = store_is f q c.args.network.now.stops.now paths hops (length m.sheet) (length m.legs) (g.T.Timetable.rule c.args.timetable.now) lim m.labels m.aboard k.0 k.1 in
-    record { backward = written_backward f q c.args.network.now.stops.now paths hops (length m.sheet) (length m.legs) (g.T.Timetable.rule c.args.timetable.now) lim c.written-2.result.now (again ∙ is) }
+    record { backward = written_backward f q c.args.network.now.stops.now paths hops (length m.sheet) (length m.legs) (g.T.Timetable.rule c.args.timetable.now) lim (labels_in c.written-2.result.now) (again ∙ is) }
 
 pub print_offers-requires : goal.print_offers-requires
 print_offers-requires g c =
@@ -68,13 +70,13 @@ print_offers-requires g c =
     let r = scan_for f hops paths q m.labels m.aboard in
     let k = came_to f q.destination m r (sym (was_ok _ c.scan.result c.map_err.result tt c.map_err.ensures.cases c.in_ok-map_err.was) ∙ c.scan.ensures.answer) in
     let s = k.0 in
-    let found : c.written.result.now ≡ s.store = c.written.ensures ∙ store_written f q.destination m r s c.scan.new.self.used c.scan.new.self.labels.now k.1 c.scan.ensures.used c.scan.ensures.labels in
-    let again : c.written-2.result.now ≡ s.store = c.written-2.ensures ∙ store_written f q.destination m r s c.scan.new.self.used c.scan.new.self.labels.now k.1 c.scan.ensures.used c.scan.ensures.labels in
-    let few = few_offers (best_offers f q.destination c.written.result.now) (items c.in_ok-offers.offers) c.in_ok-offers.ensures in
-    let offers : items c.in_ok-offers.offers ≡ best_offers f q.destination c.written-2.result.now = few.1 ∙ ap (best_offers f q.destination) (found ∙ sym again) in
+    let found : labels_in c.written.result.now ≡ s.store = ap labels_in (c.written.ensures ∙ store_written f q.destination m r s c.scan.new.self.used c.scan.new.self.labels.now k.1 c.scan.ensures.used c.scan.ensures.labels) ∙ labels_linked 0 s.store in
+    let again : labels_in c.written-2.result.now ≡ s.store = ap labels_in (c.written-2.ensures ∙ store_written f q.destination m r s c.scan.new.self.used c.scan.new.self.labels.now k.1 c.scan.ensures.used c.scan.ensures.labels) ∙ labels_linked 0 s.store in
+    let few = few_offers (best_offers f q.destination (labels_in c.written.result.now)) (items c.in_ok-offers.offers) c.in_ok-offers.ensures in
+    let offers : items c.in_ok-offers.offers ≡ best_offers f q.destination (labels_in c.written-2.result.now) = few.1 ∙ ap (best_offers f q.destination) (found ∙ sym again) in
     let lim = limits q c.args.network.now.stops.now paths hops (length m.sheet) (length m.legs) c.requires in
     let is = store_is f q c.args.network.now.stops.now paths hops (length m.sheet) (length m.legs) (g.T.Timetable.rule c.args.timetable.now) lim m.labels m.aboard s k.1 in
-    let p = printable f q c.args.network.now.stops.now paths hops (length m.sheet) (length m.legs) (g.T.Timetable.rule c.args.timetable.now) lim c.written-2.result.now (items c.in_ok-offers.offers) (again ∙ is) offers (omega (arith, few.0, ap length few.1)) in
+    let p = printable f q c.args.network.now.stops.now paths hops (length m.sheet) (length m.legs) (g.T.Timetable.rule c.args.timetable.now) lim (labels_in c.written-2.result.now) (items c.in_ok-offers.offers) (again ∙ is) offers (omega (arith, few.0, ap length few.1)) in
     record { good = p.1; each = p.2; sheet_fits = p.3; legs_fit = p.4 }
 
 pub returns-clause-outcome : goal.returns-clause-outcome
@@ -87,10 +89,10 @@ returns-clause-outcome g c =
     let r = scan_for f hops paths q m.labels m.aboard in
     let k = came_to f q.destination m r (sym (was_ok _ c.scan.result c.map_err.result tt c.map_err.ensures.cases c.in_ok-map_err.was) ∙ c.scan.ensures.answer) in
     let s = k.0 in
-    let found : c.written.result.now ≡ s.store = c.written.ensures ∙ store_written f q.destination m r s c.scan.new.self.used c.scan.new.self.labels.now k.1 c.scan.ensures.used c.scan.ensures.labels in
-    let again : c.written-2.result.now ≡ s.store = c.written-2.ensures ∙ store_written f q.destination m r s c.scan.new.self.used c.scan.new.self.labels.now k.1 c.scan.ensures.used c.scan.ensures.labels in
-    let few = few_offers (best_offers f q.destination c.written.result.now) (items c.in_ok-offers.offers) c.in_ok-offers.ensures in
-    let offers : items c.in_ok-offers.offers ≡ best_offers f q.destination c.written-2.result.now = few.1 ∙ ap (best_offers f q.destination) (found ∙ sym again) in
+    let found : labels_in c.written.result.now ≡ s.store = ap labels_in (c.written.ensures ∙ store_written f q.destination m r s c.scan.new.self.used c.scan.new.self.labels.now k.1 c.scan.ensures.used c.scan.ensures.labels) ∙ labels_linked 0 s.store in
+    let again : labels_in c.written-2.result.now ≡ s.store = ap labels_in (c.written-2.ensures ∙ store_written f q.destination m r s c.scan.new.self.used c.scan.new.self.labels.now k.1 c.scan.ensures.used c.scan.ensures.labels) ∙ labels_linked 0 s.store in
+    let few = few_offers (best_offers f q.destination (labels_in c.written.result.now)) (items c.in_ok-offers.offers) c.in_ok-offers.ensures in
+    let offers : items c.in_ok-offers.offers ≡ best_offers f q.destination (labels_in c.written-2.result.now) = few.1 ∙ ap (best_offers f q.destination) (found ∙ sym again) in
     let taken = offers ∙ ap (best_offers f q.destination) again in
     few_leaves f q.destination m r s c.print_offers.result c.scan.new.self.labels.now c.scan.new.self.used c.scan.new.aboard c.print_offers.new.out.sheet.now c.print_offers.new.out.legs.now k.1 (omega (arith, few.0, ap (λ ls. length (best_offers f q.destination ls)) found)) c.scan.ensures.labels c.scan.ensures.used c.scan.ensures.aboard
     (c.print_offers.ensures.answer ∙ (λ v. record { rows = length (taken v); labels = length (again v); bytes = length (encode (map row_of (taken v))); legs = length (legs_from (again v) 0 (taken v)) }))

@@ -1,5 +1,5 @@
 use Rattle.journeys.specs.Scan.{alight}
-use Rattle.scan.proofs.Filling.{Going}
+use Rattle.scan.proofs.Extending.{Going}
 use Rattle.scan.proofs.riding.alight_all.Given as goal
 
 abbrev pub invariant-loop-passenger : goal.invariant-loop-passenger

@@ -1,7 +1,7 @@
 use Rattle.std.proofs.Common.{◌≡◌, ℕ, ◌+◌, rules, subst, arith}
 use Rattle.journeys.specs.Runs.{on}
 use Rattle.journeys.specs.Scan.{rounds}
-use Rattle.scan.specs.Stages.{stage_of, room_of}
+use Rattle.scan.specs.Stages.{stage_of, room_for}
 use Rattle.scan.proofs.Stages.{comes, comes_on, ends}
 use Rattle.scan.proofs.ride.Ride.rounds.Goals as goal
 
@@ -18,4 +18,4 @@ returns-in_ok-round-clause-run g c =
     let last : c.loop-round.round ≡ c.args.limit = omega arith in
     let hops = g.T.Timetable.hops c.args.given.now.timetable.now in
     let t = comes _ _ _ _ _ c.round.new.self _ _ c.loop-round.invariant c.in_ok-round.ensures.run in
-    subst (λ (n : ℕ). rounds (g.F.Fare.model c.args.given.now.fare.now) (room_of c.args.self.now) hops c.args.given.now.paths.now (stage_of c.args.self.now) (n + 1) ≡ on (stage_of c.round.new.self)) last t
+    subst (λ (n : ℕ). rounds (g.F.Fare.model c.args.given.now.fare.now) (room_for c.args.self.now) hops c.args.given.now.paths.now.paths.now (stage_of c.args.self.now) (n + 1) ≡ on (stage_of c.round.new.self)) last t
