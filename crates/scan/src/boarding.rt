@@ -49,8 +49,7 @@ fn seat<F: Fare>(
 fn may_board<S: Copy>(turn: &Turn, label: &Label<S>) -> bool
     ensures { result ≡ boards turn.now.round turn.now.hop label.now }
 {
-    (label.rides == turn.round - 1)
-        & ((label.stop == turn.hop.from) & (label.time <= turn.hop.departure))
+    label.rides == turn.round - 1 && label.stop == turn.hop.from && label.time <= turn.hop.departure
 }
 
 // The label at `from` boards, if it may. (A struct of `from` and `label` would be made and taken apart at each step, and is no

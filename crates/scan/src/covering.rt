@@ -13,16 +13,17 @@ pub(crate) fn on_foot(way: Way) -> bool
 }
 
 // Whether a label is no worse than a candidate at its stop, now and however the journey goes on. A
-// label on foot may not walk on, and one of no rides has its first ride still to begin.
+// label on foot may not walk on, and one of no rides has its first ride still to begin. (Fares come
+// last: they take the longest to compare.)
 fn label_covers<F: Fare>(fare: &F, label: &Label<F::State>, candidate: &Label<F::State>) -> bool
     ensures { result ≡ covers (F.Fare.model fare.now) label.now candidate.now }
 {
-    (label.stop == candidate.stop)
-        & ((label.time <= candidate.time)
-            & ((label.rides <= candidate.rides)
-                & (fare.covers(label.state, candidate.state)
-                    & ((!on_foot(label.way) | on_foot(candidate.way))
-                        & (!(label.rides == 0) | (candidate.rides == 0))))))
+    label.stop == candidate.stop
+        && label.time <= candidate.time
+        && label.rides <= candidate.rides
+        && (!on_foot(label.way) || on_foot(candidate.way))
+        && (!(label.rides == 0) || candidate.rides == 0)
+        && fare.covers(label.state, candidate.state)
 }
 
 // Whether a label covers a candidate. Only those at its stop can, so only their chain is looked at.

@@ -14,7 +14,7 @@ use journeys::{Fare, Footpath, Full, Label, Way};
 fn is_fresh<S: Copy>(round: u32, label: &Label<S>) -> bool
     ensures { result ≡ fresh round label.now }
 {
-    (label.rides == round) & !on_foot(label.way)
+    label.rides == round && !on_foot(label.way)
 }
 
 fn walk_label<S: Copy>(from: usize, label: &Label<S>, place: usize, path: &Footpath) -> Label<S>
