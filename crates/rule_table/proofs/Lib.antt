@@ -1,3 +1,4 @@
+pub mod Spans
 pub mod Below
 pub mod MaskRows
 pub mod LimitScans

@@ -1,3 +1,4 @@
+pub mod Spans
 -- What the contracts of this crate speak of. Assumes nothing.
 pub mod Sizes
 pub mod Refusals

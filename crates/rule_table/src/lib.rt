@@ -3,7 +3,8 @@
 //
 // `RuleTable::open` takes at most 32 prices, at most 128 rules and a start ticket for each of four stop classes, and
 // refuses what is outside limits (`Refusal`). A `Rule` is met at an event of its set once each gauge has reached its
-// minimum; the next ticket is the highest that a met rule of the ticket names (`next_tickets`).
+// minimum; the next ticket is the highest that a met rule of the ticket names (`next_tickets`). Only the rules between its
+// first and its last are looked at (`span`).
 // Which ticket covers which is decided once, when the table opens, as a mask for each ticket (`masks`), by tests of all
 // tickets and events (`bounded`): what it reaches (`reach`), what it reaches and never overtakes (`overtaking`), whether
 // it is free (`free_tickets`) or fixed (`fixed_tickets`), and so what it covers (`cover`). An opened table is a lawful
@@ -21,6 +22,7 @@ mod reach;
 mod refusal;
 mod rule;
 mod sizes;
+mod span;
 mod table;
 mod tariff;
 

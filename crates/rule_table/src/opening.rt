@@ -7,6 +7,7 @@ use crate::cover::cover_masks;
 use crate::limits::{check_rest, check_rules};
 use crate::refusal::Refusal;
 use crate::rule::Rule;
+use crate::span::spans_of;
 use crate::table::RuleTable;
 use fares::Gauges;
 use short_list::ShortList;
@@ -28,6 +29,7 @@ impl RuleTable {
             rules: ShortList::copy_of(blank, rules).ok_or(Refusal::Rest)?,
             starts,
             covered: cover_masks(prices.len() as u8, rules),
+            spans: spans_of(rules),
         })
     }
 }

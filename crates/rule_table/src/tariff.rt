@@ -1,13 +1,17 @@
-ghost use Rattle.std.specs.Prelude.{◌≡◌, ◌&&◌, Decides, nat_lt, slice_index};
+ghost use Rattle.std.specs.Prelude.{◌≡◌, ℕ, ◌&&◌, Decides, nat_lt, slice_index};
 ghost use Rattle.rule_table.specs.Covering.{Covers};
 ghost use Rattle.rule_table.specs.Masks.{ticket_listed};
 ghost use Rattle.rule_table.specs.OpenedTables.{tickets_of, rules_of, table_of, prices_of};
-ghost use Rattle.rule_table.specs.Rules.{IsNext};
+ghost use Rattle.fares.specs.declared.gauges.Gauges.{Gauges};
+ghost use Rattle.short_list.specs.Items.{items};
+ghost use Rattle.rule_table.specs.Rules.{ticket_after, IsNext};
 ghost use Rattle.rule_table.specs.TableLaws.{price_within, table_laws};
 ghost use Rattle.rule_table.specs.SoundTables.{sound_table};
 
 use crate::masks::{Masks, has_ticket, row};
 use crate::next_tickets::next_ticket;
+use crate::rule::Rule;
+use crate::span::spot;
 use crate::table::RuleTable;
 use fares::{Gauges, LawfulTariff, Tariff};
 
@@ -23,6 +27,19 @@ fn has_pair(masks: &Masks, tickets: usize, k: u8, l: u8) -> bool
     ensures { result ≡ (nat_lt k tickets && ticket_listed (slice_index masks.now k) l) }
 {
     (k as usize) < tickets && has_ticket(row(masks, k), l)
+}
+
+impl RuleTable {
+    // The rules of a ticket, and what lies between them: no other leads on from it.
+    fn rules_around(&self, ticket: u8) -> &[Rule]
+        ensures { (g : Gauges) (e : ℕ) → ticket_after result.now ticket g e ≡ ticket_after (items self.now.rules) ticket g e }
+    {
+        let rules = self.rules.as_slice();
+        let span = self.spans[spot(ticket)];
+        // within the rules, as each span is: so nothing need be said of it
+        let end = span.end.min(rules.len());
+        &rules[span.begin.min(end)..end]
+    }
 }
 
 impl Tariff for RuleTable {
@@ -41,7 +58,7 @@ impl Tariff for RuleTable {
     }
 
     fn next(&self, ticket: u8, gauges: Gauges, event: u8) -> u8 {
-        next_ticket(self.rules.as_slice(), ticket, gauges, event)
+        next_ticket(self.rules_around(ticket), ticket, gauges, event)
     }
 
     #[tactic(auto, using(crate::specs::SoundTables::covers_marked))]
