@@ -1,6 +1,6 @@
 use crate::asked::{LABELS, SEATS, blank_passenger, check_asked};
 use day_planner::{Entry, Inquiry};
-use ferry_cases::{NETWORK, QUESTION, hops, no_fare, tariff};
+use ferry_cases::{QUESTION, hops, network, no_fare, tariff};
 use measures::Zones;
 use planner::Answer;
 use scan::StoredLabel;
@@ -28,7 +28,7 @@ fn check_day(rt: &impl Abort, log: &[Entry], sheet: &[u8]) -> Result<Answer, Fai
         timetable: HopList::over(&hops)?,
         tariff: tariff()?,
         measure: Zones {},
-        network: NETWORK,
+        network: network(),
         log,
         question: QUESTION,
     };

@@ -2,7 +2,7 @@ use crate::asked::{BLANK_LEG, LABELS, SEATS, blank_passenger, check_sheet};
 use crate::ferry::ONE_FERRY;
 use day_planner::{Entry, Planner, Refusal, Reply};
 use fares::Surcharge;
-use ferry_cases::{FerryState, NETWORK, QUESTION, hops, no_fare, tariff};
+use ferry_cases::{FerryState, QUESTION, hops, network, no_fare, tariff};
 use journeys::Question;
 use measures::Zones;
 use planner::{Answer, Lent, MOST_LEGS, Printout};
@@ -122,13 +122,13 @@ fn answer_after(rt: &impl Abort, planner: &mut FerryPlanner, is_run: bool) -> Re
         out,
     };
     if is_run {
-        planner.run(&entries(), &NETWORK, &mut lent);
+        planner.run(&entries(), &network(), &mut lent);
     } else {
         for (entry, told) in &LOG {
-            check_reply(rt, planner.enter(*entry, &NETWORK, &mut lent), *told);
+            check_reply(rt, planner.enter(*entry, &network(), &mut lent), *told);
         }
     }
-    let answer = planner.ask(&NETWORK, &QUESTION, &mut lent)?;
+    let answer = planner.ask(&network(), &QUESTION, &mut lent)?;
     check_sheet(rt, answer, &sheet, &ONE_FERRY);
     Ok(answer)
 }

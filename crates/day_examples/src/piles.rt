@@ -2,7 +2,7 @@ use crate::asked::{LABELS, SEATS, blank_passenger, check_asked};
 use crate::ferry::ONE_FERRY;
 use day_planner::{Entry, Inquiry};
 use fares::{FareState, Ladder, Marked};
-use ferry_cases::{NETWORK, QUESTION, hops, tariff};
+use ferry_cases::{QUESTION, hops, network, tariff};
 use journeys::{Network, Question, Stop};
 use measures::{Amount, Both, Height, Level, Metres, Pair, Stops, ZoneSet, Zones};
 use scan::StoredLabel;
@@ -114,7 +114,7 @@ fn the_ferry_measured_in_every_way_after_a_log(rt: HostRuntime) -> Result<(), Fa
         timetable: HopList::over(&hops)?,
         tariff: tariff()?,
         measure: EVERY_MEASURE,
-        network: NETWORK,
+        network: network(),
         log: &log,
         question: QUESTION,
     };

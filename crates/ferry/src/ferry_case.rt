@@ -1,4 +1,4 @@
-use ferry_cases::{NETWORK, QUESTION, hops, no_fare, tariff};
+use ferry_cases::{QUESTION, hops, network, no_fare, tariff};
 use journeys::{Leg, Passenger};
 use measures::Zones;
 use planner::{Answer, Board, Lent, Printout, ask};
@@ -32,5 +32,5 @@ pub fn ask_ferry(sheet: &mut [u8], legs: &mut [Leg]) -> anyhow::Result<Answer> {
         aboard: &mut aboard,
         out,
     };
-    Ok(ask(&board, &NETWORK, &QUESTION, &mut lent)?)
+    Ok(ask(&board, &network(), &QUESTION, &mut lent)?)
 }

@@ -1,4 +1,4 @@
-ghost use Rattle.std.specs.Prelude.{◌≡◌, true, is_ok, IfOk};
+ghost use Rattle.std.specs.Prelude.{◌≡◌, true, [], is_ok, IfOk};
 ghost use Rattle.timetable.specs.Rule.{keeps};
 ghost use Rattle.fares.specs.Surcharges.{surcharge_model};
 ghost use Rattle.rule_table.specs.OpenedTables.{table_of};
@@ -27,11 +27,6 @@ const INLAND: Stop = Stop { zone: 2, class: 0 };
 
 pub const STOPS: [Stop; 4] = [HARBOUR, HARBOUR, INLAND, HARBOUR];
 
-pub const NETWORK: Network = Network {
-    stops: &STOPS,
-    paths: &[],
-};
-
 pub const QUESTION: Question = Question {
     origin: 0,
     destination: 3,
@@ -59,6 +54,17 @@ pub fn ferry_constants()
     ensures stops { STOPS ≡ ferry_stops }
     ensures question { QUESTION ≡ ferry_question }
 {}
+
+// The stops of the cases, and no footpaths.
+pub fn network() -> Network<'static>
+    ensures stops { result.stops.now ≡ ferry_stops }
+    ensures paths { result.paths.now ≡ [] }
+{
+    Network {
+        stops: &STOPS,
+        paths: &[],
+    }
+}
 
 // A running hop of no length.
 pub fn hop(trip: u32, from: u32, to: u32, departure: u32, arrival: u32, event: u8) -> Hop

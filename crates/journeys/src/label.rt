@@ -5,26 +5,19 @@ ghost use Rattle.std.specs.Prelude.{◌≡◌};
 #[derive(Clone, Copy, Debug, PartialEq, Eq)]
 pub enum Way {
     Origin,
-    Walked {
-        path: usize,
-        from: usize,
-    },
-    Rode {
-        first: usize,
-        last: usize,
-        from: usize,
-    },
+    Walked { path: usize, from: usize },
+    Rode { first: u32, last: u32, from: usize },
 }
 
 // A part journey that the scan has found: where it has come to, when, with how many rides and at
-// which fare. S is the make of fare states.
+// which fare. S is the make of fare states. (What is looked at in most labels stands first.)
 #[derive(Clone, Copy, Debug, PartialEq, Eq)]
 pub struct Label<S> {
     pub stop: u32,
     pub time: u32,
     pub rides: u32,
-    pub state: S,
     pub way: Way,
+    pub state: S,
 }
 
 impl<S: Copy> Label<S> {
@@ -36,8 +29,8 @@ impl<S: Copy> Label<S> {
             stop,
             time,
             rides: 0,
-            state,
             way: Way::Origin,
+            state,
         }
     }
 }
@@ -48,5 +41,5 @@ impl<S: Copy> Label<S> {
 pub struct Passenger<S> {
     pub state: S,
     pub label: usize,
-    pub first: usize,
+    pub first: u32,
 }

@@ -45,7 +45,7 @@ abbrev pub refused : {S : Type 0} → Refusal → Memory S → Outcome S
 refused refusal m = record { answer = Err refusal; left = m }
 
 -- the scan's two lists, once it has come to a stage, where so many labels count as written; each of them has the place of the
--- next at its stop
+-- next in the slot of its stop
 abbrev pub used : {S : Type 0} → ℕ → Stage S → Memory S → Memory S
 used written s m = record { labels = overlay (linked s.store) m.labels; written = written; aboard = s.places; sheet = m.sheet; legs = m.legs }
 

@@ -14,7 +14,7 @@ fn last_leg(way: Way, row: u8) -> Option<(Leg, usize)>
     let (kind, first, last, from) = match way {
         Way::Origin => return None,
         Way::Walked { path, from } => (LegKind::Walk, path, path, from),
-        Way::Rode { first, last, from } => (LegKind::Ride, first, last, from),
+        Way::Rode { first, last, from } => (LegKind::Ride, first as usize, last as usize, from),
     };
     Some((
         Leg {

@@ -1,4 +1,5 @@
 pub mod Spans
+pub mod Thresholds
 pub mod Below
 pub mod MaskRows
 pub mod LimitScans

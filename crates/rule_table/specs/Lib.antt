@@ -1,4 +1,5 @@
 pub mod Spans
+pub mod Thresholds
 -- What the contracts of this crate speak of. Assumes nothing.
 pub mod Sizes
 pub mod Refusals

@@ -9,6 +9,7 @@ use crate::refusal::Refusal;
 use crate::rule::Rule;
 use crate::span::spans_of;
 use crate::table::RuleTable;
+use crate::threshold::thresholds_of;
 use fares::Gauges;
 use short_list::ShortList;
 
@@ -30,6 +31,7 @@ impl RuleTable {
             starts,
             covered: cover_masks(prices.len() as u8, rules),
             spans: spans_of(rules),
+            thresholds: thresholds_of(rules),
         })
     }
 }

@@ -13,6 +13,7 @@ use crate::next_tickets::next_ticket;
 use crate::rule::Rule;
 use crate::span::spot;
 use crate::table::RuleTable;
+use crate::threshold::is_short_of;
 use fares::{Gauges, LawfulTariff, Tariff};
 
 // What the ticket costs: nothing where it is no ticket of the table.
@@ -58,6 +59,9 @@ impl Tariff for RuleTable {
     }
 
     fn next(&self, ticket: u8, gauges: Gauges, event: u8) -> u8 {
+        if is_short_of(self.thresholds[spot(ticket)], gauges) {
+            return ticket;
+        }
         next_ticket(self.rules_around(ticket), ticket, gauges, event)
     }
 

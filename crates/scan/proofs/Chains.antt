@@ -5,7 +5,13 @@ use Rattle.std.proofs.lemmas.Bool.{eqb-true, eq-eqb}
 use Rattle.std.proofs.lemmas.List.{get_or-map}
 use Rattle.journeys.specs.declared.label.Label.{Label}
 use Rattle.scan.specs.declared.stored_label.StoredLabel.{StoredLabel}
+use Rattle.scan.specs.Links.{link, place_of}
 use Rattle.scan.specs.Chains.{slot, behind, first_in, last_in, linked_from, labels_in, lead}
+
+-- a link stands for the place that it leads to
+pub stands_for : (o : Option ℕ) → place_of (link o) ≡ o
+stands_for (Some p) = refl
+stands_for None = refl
 
 -- the first place, or else another
 abbrev pub or_at : Option ℕ → Option ℕ → Option ℕ
@@ -127,11 +133,11 @@ module _ {S : Type 0} where
   stop_of l = l.stop
 
   abbrev pub alone : Label S → StoredLabel S
-  alone c = record { label = c; next = None }
+  alone c = record { label = c; next = link None }
 
-  pub lead_set : (ys : List (StoredLabel S)) (p n : ℕ) (y : StoredLabel S) → p < length ys → y ≡ get_or ys p y → set ys p (record { label = y.label; next = Some n }) ≡ lead p n ys
+  pub lead_set : (ys : List (StoredLabel S)) (p n : ℕ) (y : StoredLabel S) → p < length ys → y ≡ get_or ys p y → set ys p (record { label = y.label; next = link (Some n) }) ≡ lead p n ys
   lead_set [] p n y h e = absurd (omega (arith, h))
-  lead_set (z ∷ ys) zero n y h e = ap {B = List (StoredLabel S)} (λ (w : StoredLabel S). record { label = w.label; next = Some n } ∷ ys) e
+  lead_set (z ∷ ys) zero n y h e = ap {B = List (StoredLabel S)} (λ (w : StoredLabel S). record { label = w.label; next = link (Some n) } ∷ ys) e
   lead_set (z ∷ ys) (suc p) n y h e = ap {B = List (StoredLabel S)} (λ l. z ∷ l) (lead_set ys p n y (omega (arith, h)) e)
 
   pub labels_linked : (i : ℕ) (ls : List (Label S)) → labels_in (linked_from i ls) ≡ ls
@@ -165,30 +171,30 @@ module _ {S : Type 0} where
 
   -- and where the last of the slot leads to it
   relinked : (l c : Label S) (n : ℕ) (f : Option ℕ) (tail : List (StoredLabel S)) (b : Bool) → (slot l.stop == slot c.stop) ≡ b → (o : Option ℕ) → ((slot c.stop ≡ slot l.stop) → Agree o f)
-      → ◌≡◌ {A = List (StoredLabel S)} (record { label = l; next = or_at f (led (slot l.stop) n c) } ∷ (lead_from o n tail ++ (alone c ∷ [])))
-      (lead_from (behind b o) n (record { label = l; next = f } ∷ tail) ++ (alone c ∷ []))
+      → ◌≡◌ {A = List (StoredLabel S)} (record { label = l; next = link (or_at f (led (slot l.stop) n c)) } ∷ (lead_from o n tail ++ (alone c ∷ [])))
+      (lead_from (behind b o) n (record { label = l; next = link f } ∷ tail) ++ (alone c ∷ []))
   relinked l c n f tail true t (Some p) a =
-      λ v. record { label = l; next = a (sym (eqb-true (slot l.stop) (slot c.stop) t)) (led (slot l.stop) n c) v } ∷ (lead p n tail ++ (alone c ∷ []))
-  relinked l c n f tail false t (Some p) a = λ v. record { label = l; next = not_led (slot l.stop) n c f t v } ∷ (lead p n tail ++ (alone c ∷ []))
+      λ v. record { label = l; next = link (a (sym (eqb-true (slot l.stop) (slot c.stop) t)) (led (slot l.stop) n c) v) } ∷ (lead p n tail ++ (alone c ∷ []))
+  relinked l c n f tail false t (Some p) a = λ v. record { label = l; next = link (not_led (slot l.stop) n c f t v) } ∷ (lead p n tail ++ (alone c ∷ []))
   relinked l c n f tail true t None a =
       let same : slot c.stop ≡ slot l.stop = sym (eqb-true (slot l.stop) (slot c.stop) t) in
       let here : or_at f (led (slot l.stop) n c) ≡ Some n = ap (λ o. or_at o (led (slot l.stop) n c)) (a same) ∙ ap (λ b. cond b (Some n) None) (eq-eqb (slot c.stop) (slot l.stop) same) in
-      λ v. record { label = l; next = here v } ∷ (tail ++ (alone c ∷ []))
-  relinked l c n f tail false t None a = λ v. record { label = l; next = not_led (slot l.stop) n c f t v } ∷ (tail ++ (alone c ∷ []))
+      λ v. record { label = l; next = link (here v) } ∷ (tail ++ (alone c ∷ []))
+  relinked l c n f tail false t None a = λ v. record { label = l; next = link (not_led (slot l.stop) n c f t v) } ∷ (tail ++ (alone c ∷ []))
 
   -- a label written next is led to from the last in its slot
   pub linked_push : (i : ℕ) (ls : List (Label S)) (c : Label S) → linked_from i (ls ++ (c ∷ [])) ≡ lead_from (last_in stop_of (slot c.stop) ls) (i + length ls) (linked_from i ls) ++ (alone c ∷ [])
   linked_push i [] c = refl
   linked_push i (l ∷ ls) c =
       let n : suc i + length ls ≡ i + suc (length ls) = omega arith in
-      (λ v. record { label = l; next = first_push stop_of (slot l.stop) (suc i) ls c v } ∷ linked_push (suc i) ls c v)
+      (λ v. record { label = l; next = link (first_push stop_of (slot l.stop) (suc i) ls c v) } ∷ linked_push (suc i) ls c v)
       ∙ relinked l c (suc i + length ls) (first_in stop_of (slot l.stop) (suc i) ls) (linked_from (suc i) ls) (slot l.stop == slot c.stop) refl (last_in stop_of (slot c.stop) ls)
       (λ same. subst (λ (k : ℕ). Agree (last_in stop_of (slot c.stop) ls) (first_in stop_of k (suc i) ls)) same (agree stop_of (slot c.stop) (suc i) ls))
       ∙ ap (λ (m : ℕ). lead_from (last_in stop_of (slot c.stop) (l ∷ ls)) m (linked_from i (l ∷ ls)) ++ (alone c ∷ [])) n
 
   -- a place of a linked store
   pub linked_here : (ls : List (Label S)) (p : ℕ) (y : StoredLabel S) → p < length ls → y ≡ get_or (linked_from 0 ls) p y
-      → (drop p ls ≡ y.label ∷ drop (suc p) ls) × (y.next ≡ first_in stop_of (slot y.label.stop) (suc p) (drop (suc p) ls))
+      → (drop p ls ≡ y.label ∷ drop (suc p) ls) × (place_of y.next ≡ first_in stop_of (slot y.label.stop) (suc p) (drop (suc p) ls))
   linked_here ls p y h e = go (drop p ls) refl
     where
       here : drop p (linked_from 0 ls) ≡ y ∷ drop (suc p) (linked_from 0 ls)
@@ -197,11 +203,11 @@ module _ {S : Type 0} where
       as_linked : (rest : List (Label S)) → drop p ls ≡ rest → linked_from p rest ≡ y ∷ drop (suc p) (linked_from 0 ls)
       as_linked rest d = (λ v. linked_from ((let z : p ≡ p + 0 = omega arith in z) v) (sym d v)) ∙ sym (drop_linked p 0 ls) ∙ here
 
-      go : (rest : List (Label S)) → drop p ls ≡ rest → (drop p ls ≡ y.label ∷ drop (suc p) ls) × (y.next ≡ first_in stop_of (slot y.label.stop) (suc p) (drop (suc p) ls))
+      go : (rest : List (Label S)) → drop p ls ≡ rest → (drop p ls ≡ y.label ∷ drop (suc p) ls) × (place_of y.next ≡ first_in stop_of (slot y.label.stop) (suc p) (drop (suc p) ls))
       go [] d = absurd (let z : ◌≡◌ {A = List (StoredLabel S)} [] (y ∷ drop (suc p) (linked_from 0 ls)) = as_linked [] d in let w : ◌≡◌ {A = ℕ} 0 1 = cc in omega arith)
       go (l ∷ more) d =
-          let is : record { label = l; next = first_in stop_of (slot l.stop) (suc p) more } ≡ y = let z = as_linked (l ∷ more) d in cc in
+          let is : record { label = l; next = link (first_in stop_of (slot l.stop) (suc p) more) } ≡ y = let z = as_linked (l ∷ more) d in cc in
           let rest : drop (suc p) ls ≡ more = drop_on l more ls p d in (
             d ∙ (λ v. (is v).label ∷ sym rest v),
-            sym (ap (λ (z : StoredLabel S). z.next) is) ∙ (λ v. first_in stop_of (slot (is v).label.stop) (suc p) (sym rest v)),
+            sym (ap (λ (z : StoredLabel S). place_of z.next) is) ∙ stands_for (first_in stop_of (slot l.stop) (suc p) more) ∙ (λ v. first_in stop_of (slot (is v).label.stop) (suc p) (sym rest v)),
           )

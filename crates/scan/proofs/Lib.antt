@@ -8,4 +8,6 @@ pub mod Loops
 pub mod Filling
 pub mod Extending
 pub mod Stages
+pub mod Idle
+pub mod Rounds
 pub mod Walkers

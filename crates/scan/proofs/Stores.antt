@@ -1,15 +1,17 @@
 -- A store after a label is written. Assumes nothing.
 use Rattle.std.proofs.Common.{◌≡◌, ℕ, suc, ◌+◌, ◌<◌, ◌==◌, ◌⊎◌, Bool, true, false, cond, List, [], ◌∷◌, ◌++◌, length, get_or, take, drop, set, Some, None, Option, sym, refl, ap, ◌∙◌, subst, inl, inr, arith, length-append, get_or-take}
+use lib.ListN.{length-map}
 use Rattle.std.proofs.Math.Seq.{take-append_seam}
 use Rattle.std.proofs.lemmas.Bool.{eqb-true, eq-eqb, cases_eq}
-use Rattle.std.proofs.lemmas.List.{get_or-set_same, get_or-set_other, length-set}
+use Rattle.std.proofs.lemmas.List.{get_or-set_same, get_or-set_other, length-set, map-set}
 use Rattle.journeys.specs.declared.label.Label.{Label}
 use Rattle.journeys.specs.Runs.{overlay}
 use Rattle.scan.specs.declared.stored_label.StoredLabel.{StoredLabel}
 use Rattle.scan.specs.declared.store.Store.{Store}
+use Rattle.scan.specs.Links.{link, place_of}
 use Rattle.scan.specs.Chains.{slot, slots, first_in, last_in, linked, labels_in}
 use Rattle.scan.specs.Filling.{filled, Kept}
-use Rattle.scan.specs.Stores.{as_filled, Chained, Extended, labels_of}
+use Rattle.scan.specs.Stores.{as_filled, Chained, Extended, labels_of, places_of}
 use Rattle.scan.proofs.Chains.{or_at, Within, Agree, first_push, last_push, last_within, agree, led, not_led, lead_from, alone, stop_of, labels_linked, length_linked, linked_push, linked_here}
 use Rattle.scan.proofs.Filling.{length_filled}
 use Rattle.scan.proofs.Loops.{overlay_overlay}
@@ -31,11 +33,11 @@ module _ {S : Type 0} where
   length_labels s c = sym (length_linked 0 (labels_of s)) ∙ sym (ap length c.linked) ∙ length_filled (as_filled s)
 
   pub stored : (s : Store S) (p : ℕ) (y : StoredLabel S) → Chained s → p < length (labels_of s) → y ≡ get_or s.places.now p y
-      → (drop p (labels_of s) ≡ y.label ∷ drop (suc p) (labels_of s)) × (y.next ≡ first_in stop_of (slot y.label.stop) (suc p) (drop (suc p) (labels_of s)))
+      → (drop p (labels_of s) ≡ y.label ∷ drop (suc p) (labels_of s)) × (place_of y.next ≡ first_in stop_of (slot y.label.stop) (suc p) (drop (suc p) (labels_of s)))
   stored s p y c h e = linked_here (labels_of s) p y h (e ∙ sym (get_or-take s.used s.places.now p y (omega (arith, h, length_labels s c))) ∙ ap (λ l. get_or l p y) c.linked)
 
   -- the last of a slot is a place that is written
-  pub last_written : (s : Store S) (k p : ℕ) → Chained s → k < slots → get_or s.last k None ≡ Some p → p < s.used
+  pub last_written : (s : Store S) (k p : ℕ) → Chained s → k < slots → get_or (places_of s.last) k None ≡ Some p → p < s.used
   last_written s k p c h e = let w = subst (Within 0 (length (labels_of s))) (sym (c.last k h) ∙ e) (last_within stop_of k (labels_of s)) in omega (arith, w.1, length_labels s c)
 
   module _ (ls : List (Label S)) (c : Label S) (n : ℕ) (is : n ≡ length ls) where
@@ -65,9 +67,9 @@ module _ {S : Type 0} where
         go (inr ne) = get_or-set_other lasts (slot c.stop) j (Some n) None ne ∙ were j h ∙ sym (ap (λ b. cond b (Some n) (last_in stop_of j ls)) (apart (slot c.stop) j (λ e. ne (sym e))))
 
   -- a label is written next, and the last of its slot leads to it
-  module _ (old new : Store S) (c : Label S) (n : ℕ) (was : Chained old) (is : n ≡ old.used) (within : slot c.stop < slots) (o : Option ℕ) (found : get_or old.last (slot c.stop) None ≡ o)
+  module _ (old new : Store S) (c : Label S) (n : ℕ) (was : Chained old) (is : n ≡ old.used) (within : slot c.stop < slots) (o : Option ℕ) (found : get_or (places_of old.last) (slot c.stop) None ≡ o)
       (filled_is : filled (as_filled new) ≡ lead_from o n (filled (as_filled old)) ++ (alone c ∷ []))
-      (first_is : new.first ≡ first_after o (slot c.stop) n old.first) (last_is : new.last ≡ set old.last (slot c.stop) (Some n)) where
+      (first_is : places_of new.first ≡ first_after o (slot c.stop) n (places_of old.first)) (last_is : places_of new.last ≡ set (places_of old.last) (slot c.stop) (Some n)) where
     place_is : n ≡ length (labels_of old)
     place_is = omega (arith, is, length_labels old was)
 
@@ -84,19 +86,19 @@ module _ {S : Type 0} where
 
     pub written_chained : Chained new
     written_chained = record {
-      firsts = ap length first_is ∙ many o;
-      lasts = ap length last_is ∙ length-set old.last (slot c.stop) (Some n) ∙ was.lasts;
+      firsts = sym (length-map new.first place_of) ∙ ap length first_is ∙ many o;
+      lasts = sym (length-map new.last place_of) ∙ ap length last_is ∙ length-set (places_of old.last) (slot c.stop) (Some n) ∙ length-map old.last place_of ∙ was.lasts;
       linked = now_linked ∙ ap linked (sym written_labels);
-      first = λ j h. (λ v. get_or (first_is v) j None) ∙ firsts_after (labels_of old) c n place_is old.first was.firsts within was.first o agreed j h ∙ ap (first_in stop_of j 0) (sym written_labels);
-      last = λ j h. (λ v. get_or (last_is v) j None) ∙ lasts_after (labels_of old) c n place_is old.last was.lasts within was.last j h ∙ ap (last_in stop_of j) (sym written_labels);
+      first = λ j h. (λ v. get_or (first_is v) j None) ∙ firsts_after (labels_of old) c n place_is (places_of old.first) (length-map old.first place_of ∙ was.firsts) within was.first o agreed j h ∙ ap (first_in stop_of j 0) (sym written_labels);
+      last = λ j h. (λ v. get_or (last_is v) j None) ∙ lasts_after (labels_of old) c n place_is (places_of old.last) (length-map old.last place_of ∙ was.lasts) within was.last j h ∙ ap (last_in stop_of j) (sym written_labels);
     }
       where
         agreed : Agree o (first_in stop_of (slot c.stop) 0 (labels_of old))
         agreed = subst (λ z. Agree z (first_in stop_of (slot c.stop) 0 (labels_of old))) last_found (agree stop_of (slot c.stop) 0 (labels_of old))
 
-        many : (o : Option ℕ) → length (first_after o (slot c.stop) n old.first) ≡ slots
-        many (Some p) = was.firsts
-        many None = length-set old.first (slot c.stop) (Some n) ∙ was.firsts
+        many : (o : Option ℕ) → length (first_after o (slot c.stop) n (places_of old.first)) ≡ slots
+        many (Some p) = length-map old.first place_of ∙ was.firsts
+        many None = length-set (places_of old.first) (slot c.stop) (Some n) ∙ length-map old.first place_of ∙ was.firsts
 
     pub written_extended : new.places.ghost_name ≡ old.places.ghost_name → length new.places.now ≡ length old.places.now
         → new.places.now ≡ overlay (filled (as_filled new)) old.places.now → Extended old new
@@ -113,24 +115,24 @@ module _ {S : Type 0} where
         more = ap length written_labels ∙ length-append (labels_of old) (c ∷ [])
 
   -- The same in steps: the last of the slot leads to the place, or the slot begins there, and then the label fills it.
-  module _ (old mid new : Store S) (c : Label S) (k : ℕ) (was : Chained old) (k_is : k ≡ slot c.stop) (within : k < slots) (o : Option ℕ) (found : get_or old.last k None ≡ o)
-      (led_is : filled (as_filled mid) ≡ lead_from o old.used (filled (as_filled old))) (used_is : mid.used ≡ old.used) (first_is : mid.first ≡ first_after o k old.used old.first) (last_is : mid.last ≡ old.last)
+  module _ (old mid new : Store S) (c : Label S) (k : ℕ) (was : Chained old) (k_is : k ≡ slot c.stop) (within : k < slots) (o : Option ℕ) (found : get_or (places_of old.last) k None ≡ o)
+      (led_is : filled (as_filled mid) ≡ lead_from o old.used (filled (as_filled old))) (used_is : mid.used ≡ old.used) (first_is : places_of mid.first ≡ first_after o k old.used (places_of old.first)) (last_is : mid.last ≡ old.last)
       (same : mid.places.ghost_name ≡ old.places.ghost_name) (room : length mid.places.now ≡ length old.places.now) (behind : mid.places.now ≡ overlay (filled (as_filled mid)) old.places.now)
-      (filled_is : filled (as_filled new) ≡ filled (as_filled mid) ++ (alone c ∷ [])) (kept : Kept (as_filled mid) (as_filled new)) (new_first : new.first ≡ mid.first) (new_last : new.last ≡ set mid.last k (Some mid.used)) where
+      (filled_is : filled (as_filled new) ≡ filled (as_filled mid) ++ (alone c ∷ [])) (kept : Kept (as_filled mid) (as_filled new)) (new_first : new.first ≡ mid.first) (new_last : new.last ≡ set mid.last k (link (Some mid.used))) where
     in_slot : slot c.stop < slots
     in_slot = omega (arith, within, k_is)
 
-    found_in_slot : get_or old.last (slot c.stop) None ≡ o
-    found_in_slot = ap (λ (j : ℕ). get_or old.last j None) (sym k_is) ∙ found
+    found_in_slot : get_or (places_of old.last) (slot c.stop) None ≡ o
+    found_in_slot = ap (λ (j : ℕ). get_or (places_of old.last) j None) (sym k_is) ∙ found
 
     all_filled : filled (as_filled new) ≡ lead_from o old.used (filled (as_filled old)) ++ (alone c ∷ [])
     all_filled = filled_is ∙ ap (λ l. l ++ (alone c ∷ [])) led_is
 
-    firsts_are : new.first ≡ first_after o (slot c.stop) old.used old.first
-    firsts_are = new_first ∙ first_is ∙ ap (λ (j : ℕ). first_after o j old.used old.first) k_is
+    firsts_are : places_of new.first ≡ first_after o (slot c.stop) old.used (places_of old.first)
+    firsts_are = ap places_of new_first ∙ first_is ∙ ap (λ (j : ℕ). first_after o j old.used (places_of old.first)) k_is
 
-    lasts_are : new.last ≡ set old.last (slot c.stop) (Some old.used)
-    lasts_are = new_last ∙ (λ v. set (last_is v) (k_is v) (Some (used_is v)))
+    lasts_are : places_of new.last ≡ set (places_of old.last) (slot c.stop) (Some old.used)
+    lasts_are = ap places_of new_last ∙ map-set place_of mid.last k (link (Some mid.used)) ∙ (λ v. set (places_of (last_is v)) (k_is v) (Some (used_is v)))
 
     pub after_labels : labels_of new ≡ labels_of old ++ (c ∷ [])
     after_labels = written_labels old new c old.used was refl in_slot o found_in_slot all_filled firsts_are lasts_are

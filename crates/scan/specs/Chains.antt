@@ -1,9 +1,10 @@
--- Labels linked by their stops: each place has the place of the next label at its stop.
+-- Labels linked by their stops: each place has the place of the next label in the slot of its stop.
 -- Assumes nothing. There are 4,096 slots, as many as a network may have stops, so each of its stops has a slot of its own.
 use Rattle.std.specs.Prelude.{ℕ, zero, suc, ◌%◌, Bool, cond, List, [], ◌∷◌, map, Some, None, Option, ◌==◌}
 use Rattle.journeys.specs.declared.label.Label.{Label}
 use Rattle.journeys.specs.declared.label.Way.TheVariants.{Origin}
 use Rattle.scan.specs.declared.stored_label.StoredLabel.{StoredLabel}
+use Rattle.scan.specs.Links.{link}
 
 abbrev pub slots : ℕ
 slots = 4096
@@ -29,10 +30,10 @@ module _ {X : Type 0} (stop : X → ℕ) where
   last_in k (x ∷ xs) = behind (slot (stop x) == k) (last_in k xs)
 
 module _ {S : Type 0} where
-  -- labels, each with the place of the next at its stop; the first is written at place i
+  -- labels, each with the place of the next in its slot; the first is written at place i
   abbrev pub linked_from : ℕ → List (Label S) → List (StoredLabel S)
   linked_from i [] = []
-  linked_from i (l ∷ ls) = record { label = l; next = first_in (λ x. x.stop) (slot l.stop) (suc i) ls } ∷ linked_from (suc i) ls
+  linked_from i (l ∷ ls) = record { label = l; next = link (first_in (λ x. x.stop) (slot l.stop) (suc i) ls) } ∷ linked_from (suc i) ls
 
   -- a whole store
   abbrev pub linked : List (Label S) → List (StoredLabel S)
@@ -40,7 +41,7 @@ module _ {S : Type 0} where
 
   -- what a place holds before a label is written there
   abbrev pub blank_label : S → StoredLabel S
-  blank_label state = record { label = record { stop = 0; time = 0; rides = 0; state = state; way = Origin }; next = None }
+  blank_label state = record { label = record { stop = 0; time = 0; rides = 0; state = state; way = Origin }; next = link None }
 
   -- the labels alone
   abbrev pub labels_in : List (StoredLabel S) → List (Label S)
@@ -49,5 +50,5 @@ module _ {S : Type 0} where
 -- the label at place p leads on to place n
 abbrev pub lead : {S : Type 0} → ℕ → ℕ → List (StoredLabel S) → List (StoredLabel S)
 lead p n [] = []
-lead zero n (l ∷ ls) = record { label = l.label; next = Some n } ∷ ls
+lead zero n (l ∷ ls) = record { label = l.label; next = link (Some n) } ∷ ls
 lead (suc p) n (l ∷ ls) = l ∷ lead p n ls

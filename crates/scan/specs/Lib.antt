@@ -1,4 +1,6 @@
 pub mod Stores
+pub mod Links
+pub mod Rounds
 pub mod Chains
 pub mod PathTables
 pub mod Scanned

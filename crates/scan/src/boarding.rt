@@ -1,9 +1,10 @@
-ghost use Rattle.std.specs.Prelude.{◌≡◌, length};
+ghost use Rattle.std.specs.Prelude.{◌≡◌, true, length};
 ghost use Rattle.journeys.specs.Fare.{boarded};
 ghost use Rattle.journeys.specs.Labels.{boards};
 ghost use Rattle.std.specs.List.{list_any};
 ghost use Rattle.journeys.specs.Runs.{run_each};
 ghost use Rattle.journeys.specs.Scan.{seat as seat_run, board as board_run};
+ghost use Rattle.scan.specs.Rounds.{all_from};
 ghost use Rattle.scan.specs.Filling.{filled, Kept, ran};
 ghost use Rattle.scan.specs.Stores.{Chained, labels_of};
 
@@ -71,12 +72,13 @@ fn board<F: Fare>(
     let passenger = Passenger {
         state,
         label: from,
-        first: turn.place as usize,
+        first: turn.place,
     };
     seat(fare, turn.place, passenger, aboard)
 }
 
-// The labels board in store order. Only those at the hop's stop may, so only their chain is looked at.
+// The labels board in store order. Only those at the hop's stop may, so only their chain is looked at, and that up to where the
+// labels of this round begin: they have ridden once too often.
 pub(crate) fn board_all<F: Fare>(
     fare: &F,
     turn: &Turn,
@@ -84,14 +86,18 @@ pub(crate) fn board_all<F: Fare>(
     aboard: &mut Filled<Passenger<F::State>>,
 ) -> Result<(), Full>
     requires chained { Chained labels.now }
+    requires begins { all_from turn.now.begins turn.now.round (labels_of labels.now) ≡ true }
     ensures run { run_each (board_run (F.Fare.model fare.now) (length aboard.old.places.now) turn.now.round turn.now.place turn.now.hop) 0 (labels_of labels.now) (filled aboard.old) ≡ ran result (filled aboard.new) }
     ensures kept { Kept aboard.old aboard.new }
 {
     let mut at = labels.first_at(turn.hop.from);
     while let Some(place) = at {
+        if place >= turn.begins {
+            return Ok(());
+        }
         let stored = labels.label(place);
         board(fare, turn, place, &stored.label, aboard)?;
-        at = stored.next;
+        at = stored.next.place();
     }
     Ok(())
 }

@@ -41,7 +41,7 @@ pub(crate) fn is_covered<F: Fare>(
         if label_covers(fare, &stored.label, candidate) {
             return true;
         }
-        at = stored.next;
+        at = stored.next.place();
     }
     false
 }

@@ -13,6 +13,7 @@ mod boarding;
 mod covering;
 mod filled;
 mod label_store;
+mod link;
 mod offering;
 mod path_table;
 mod ride;
@@ -24,4 +25,5 @@ mod turn;
 mod walking;
 
 pub use label_store::LabelStore;
+pub use link::Link;
 pub use stored_label::StoredLabel;

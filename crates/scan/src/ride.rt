@@ -1,9 +1,10 @@
-ghost use Rattle.std.specs.Prelude.{◌≡◌, ℕ, ◌+◌, []};
+ghost use Rattle.std.specs.Prelude.{◌≡◌, ℕ, ◌+◌, true, []};
 ghost use Rattle.journeys.specs.Scan.{passed, emptied, kept, riding, pass_hop as pass_hop_run, pass_hops as pass_hops_run, round as round_run, rounds as rounds_run, scan_for};
 ghost use Rattle.journeys.specs.Runs.{overlay};
 ghost use Rattle.scan.specs.Chains.{linked};
+ghost use Rattle.scan.specs.Rounds.{all_from};
 ghost use Rattle.scan.specs.Filling.{ran};
-ghost use Rattle.scan.specs.Stages.{stage, stage_of, room_for, Carried};
+ghost use Rattle.scan.specs.Stages.{stage, stage_of, room_for, idle, Carried};
 ghost use Rattle.scan.specs.Stores.{Chained, labels_of};
 
 use crate::boarding::board_all;
@@ -65,9 +66,21 @@ impl<'r, 'a, 'b, S: Copy> Ride<'r, 'a, 'b, S> {
         }
     }
 
-    // A hop that runs: labels board, all aboard ride on, and all aboard are offered.
+    // Whether nobody would ride a hop, if it ran: no label is in the slot of its stop, and those aboard are on another trip, if there
+    // are any.
+    fn is_idle(&self, hop: &Hop) -> bool
+        requires chained { Chained self.now.labels.now }
+        ensures { result ≡ idle hop.now self.now }
+    {
+        self.labels.first_at(hop.from).is_none()
+            && (self.trip != hop.trip || self.aboard.len() == 0)
+    }
+
+    // A hop that runs: labels board, all aboard ride on, and all aboard are offered. (A call of its own: at most hops nobody rides.)
+    #[inline(never)]
     fn ride<F: Fare<State = S>>(&mut self, fare: &F, turn: &Turn) -> Result<(), Full>
         requires chained { Chained self.old.labels.now }
+        requires begins { all_from turn.now.begins turn.now.round (labels_of self.old.labels.now) ≡ true }
         ensures run { riding (F.Fare.model fare.now) (room_for self.old) turn.now.round turn.now.place turn.now.hop (stage_of self.old) ≡ ran result (stage_of self.new) }
         ensures carried { Carried self.old self.new }
     {
@@ -77,13 +90,15 @@ impl<'r, 'a, 'b, S: Copy> Ride<'r, 'a, 'b, S> {
         alight_all(fare, turn, self.aboard.as_slice(), self.labels)
     }
 
-    // One that does not run lets all off.
+    // A hop that does not run lets all off; so does one that nobody rides.
+    #[inline(always)]
     fn pass_hop<F: Fare<State = S>>(&mut self, fare: &F, turn: &Turn) -> Result<(), Full>
         requires chained { Chained self.old.labels.now }
+        requires begins { all_from turn.now.begins turn.now.round (labels_of self.old.labels.now) ≡ true }
         ensures run { pass_hop_run (F.Fare.model fare.now) (room_for self.old) turn.now.round turn.now.place turn.now.hop (stage_of self.old) ≡ ran result (stage_of self.new) }
         ensures carried { Carried self.old self.new }
     {
-        if !turn.hop.runs {
+        if !turn.hop.runs || self.is_idle(&turn.hop) {
             self.empty(turn.hop.trip);
             return Ok(());
         }
@@ -102,12 +117,19 @@ impl<'r, 'a, 'b, S: Copy> Ride<'r, 'a, 'b, S> {
         ensures carried { Carried self.old self.new }
     {
         self.empty(0);
+        let begins = self.labels.len();
         // by place, since a timetable is no list: it answers one hop at a time
         for place in 0..hops_in_round(given.timetable, round) {
             let Some(hop) = given.timetable.hop(place) else {
                 continue;
             };
-            self.pass_hop(given.fare, &Turn { round, place, hop })?;
+            let turn = Turn {
+                round,
+                begins,
+                place,
+                hop,
+            };
+            self.pass_hop(given.fare, &turn)?;
         }
         Ok(())
     }

@@ -35,7 +35,7 @@ fn ride_label<S: Copy>(turn: &Turn, passenger: &Passenger<S>) -> Label<S>
         state: passenger.state,
         way: Way::Rode {
             first: passenger.first,
-            last: turn.place as usize,
+            last: turn.place,
             from: passenger.label,
         },
     }

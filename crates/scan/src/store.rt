@@ -1,7 +1,9 @@
 ghost use Rattle.std.specs.Prelude.{◌≡◌, ◌<◌, ◌≤◌, ◌++◌, suc, length, drop, [], ◌∷◌, None, Some, slice_set};
 ghost use Rattle.scan.specs.Chains.{slot as slot_of, slots, first_in};
+ghost use Rattle.scan.specs.Links.{link, place_of};
 ghost use Rattle.journeys.specs.declared.full.Full.TheVariants.{Store as StoreFull};
 
+use crate::link::Link;
 use crate::slot::{SLOTS, slot};
 use crate::stored_label::StoredLabel;
 use journeys::{Full, Label};
@@ -13,8 +15,8 @@ use journeys::{Full, Label};
 pub(crate) struct Store<'a, S> {
     places: &'a mut [StoredLabel<S>],
     used: usize,
-    first: [Option<usize>; SLOTS],
-    last: [Option<usize>; SLOTS],
+    first: [Link; SLOTS],
+    last: [Link; SLOTS],
     ghost fits: { used ≤ length places.now },
 }
 
@@ -34,8 +36,8 @@ impl<'a, S: Copy> Store<'a, S> {
         Store {
             places,
             used: 0,
-            first: [None; SLOTS],
-            last: [None; SLOTS],
+            first: [Link::NONE; SLOTS],
+            last: [Link::NONE; SLOTS],
         }
     }
 
@@ -51,7 +53,7 @@ impl<'a, S: Copy> Store<'a, S> {
         requires chained { Chained self.now }
         ensures { result ≡ first_in (λ l. l.stop) (slot_of stop) 0 (labels_of self.now) }
     {
-        self.first[slot(stop)]
+        self.first[slot(stop)].place()
     }
 
     // The label at a place, and the place of the next in its slot.
@@ -59,7 +61,7 @@ impl<'a, S: Copy> Store<'a, S> {
         requires chained { Chained self.now }
         requires written { place < length (labels_of self.now) }
         ensures here { drop place (labels_of self.now) ≡ result.now.label ∷ drop (suc place) (labels_of self.now) }
-        ensures next { result.now.next ≡ first_in (λ l. l.stop) (slot_of result.now.label.stop) (suc place) (drop (suc place) (labels_of self.now)) }
+        ensures next { place_of result.now.next ≡ first_in (λ l. l.stop) (slot_of result.now.label.stop) (suc place) (drop (suc place) (labels_of self.now)) }
     {
         let places = &*self.places;
         &places[place]
@@ -90,7 +92,7 @@ impl<'a, S: Copy> Store<'a, S> {
     {
         let place = self.used;
         let slot = slot(label.stop);
-        match self.last[slot] {
+        match self.last[slot].place() {
             Some(before) => self.lead(before, place),
             None => self.begin(slot, place),
         }
@@ -100,17 +102,19 @@ impl<'a, S: Copy> Store<'a, S> {
     // A slot begins at a place.
     fn begin(&mut self, slot: usize, place: usize)
         requires slot_in_bounds { slot < slots }
+        requires room { place < room_of self.old }
         ensures places { self.new.places ≡ self.old.places }
         ensures used { self.new.used ≡ self.old.used }
-        ensures first { self.new.first ≡ slice_set self.old.first slot (Some place) }
+        ensures first { self.new.first ≡ slice_set self.old.first slot (link (Some place)) }
         ensures last { self.new.last ≡ self.old.last }
     {
-        self.first[slot] = Some(place);
+        self.first[slot] = Link::to(place);
     }
 
     // The label at a place leads on to another.
     fn lead(&mut self, place: usize, next: usize)
         requires written { place < self.old.used }
+        requires room { next < room_of self.old }
         ensures filled { filled (as_filled self.new) ≡ lead_to place next (filled (as_filled self.old)) }
         ensures behind { self.new.places.now ≡ overlay (filled (as_filled self.new)) self.old.places.now }
         ensures same { self.new.places.ghost_name ≡ self.old.places.ghost_name }
@@ -119,20 +123,23 @@ impl<'a, S: Copy> Store<'a, S> {
         ensures first { self.new.first ≡ self.old.first }
         ensures last { self.new.last ≡ self.old.last }
     {
-        self.places[place].next = Some(next);
+        self.places[place].next = Link::to(next);
     }
 
     // A label fills the next place, leads to none, and is the last of its slot.
     fn fill(&mut self, slot: usize, label: Label<S>)
         requires slot_in_bounds { slot < slots }
         requires room { self.old.used < room_of self.old }
-        ensures filled { filled (as_filled self.new) ≡ filled (as_filled self.old) ++ (record { label = label; next = None } ∷ []) }
+        ensures filled { filled (as_filled self.new) ≡ filled (as_filled self.old) ++ (record { label = label; next = link None } ∷ []) }
         ensures kept { Kept (as_filled self.old) (as_filled self.new) }
         ensures first { self.new.first ≡ self.old.first }
-        ensures last { self.new.last ≡ slice_set self.old.last slot (Some self.old.used) }
+        ensures last { self.new.last ≡ slice_set self.old.last slot (link (Some self.old.used)) }
     {
-        self.last[slot] = Some(self.used);
-        self.places[self.used] = StoredLabel { label, next: None };
+        self.last[slot] = Link::to(self.used);
+        self.places[self.used] = StoredLabel {
+            next: Link::NONE,
+            label,
+        };
         self.used += 1;
     }
 }

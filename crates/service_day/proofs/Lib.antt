@@ -1,4 +1,5 @@
 pub mod Members
+pub mod Marks
 pub mod LayerAnswers
 pub mod Outcomes
 pub mod WholeDays

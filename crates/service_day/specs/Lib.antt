@@ -1,4 +1,5 @@
 pub mod Tables
+pub mod Marks
 pub mod Refusals
 pub mod Changes
 pub mod Days

@@ -5,24 +5,32 @@ ghost use Rattle.service_day.specs.Changes.{cancelled_by};
 ghost use Rattle.service_day.specs.Days.{cancelling, reinstating};
 ghost use Rattle.service_day.specs.LayerRule.{cancelled_gentle};
 ghost use Rattle.service_day.specs.Layers.{cancelled_in, off_in};
+ghost use Rattle.service_day.specs.Marks.{all_marked};
 ghost use Rattle.service_day.specs.Refusals.{told, left};
 ghost use Rattle.service_day.specs.Tables.{itself, most_listed, trip_numbers, without};
 
 use crate::cancelled_trips::CancelledTrips;
 use crate::changes::halted;
-use crate::layer::{Changes, Layer};
+use crate::layer::{Changes, Layer, MOST_LISTED};
 use crate::refusal::Refusal;
+use crate::trip_marks::TripMarks;
 use short_list::ShortList;
 use timetable::{Hop, Timetable};
 
 // A timetable in which the listed trips do not run.
 pub type Cancellations<T> = Layer<T, CancelledTrips>;
 
+fn marks_of(trips: &ShortList<u32, MOST_LISTED>) -> TripMarks
+    ensures { all_marked itself result.marks (items trips.now) ≡ true }
+{
+    TripMarks::of(trips.as_slice(), |trip| trip)
+}
+
 impl CancelledTrips {
     fn is_listed(&self, trip: u32) -> bool
         ensures { result ≡ off_in self.now trip }
     {
-        self.trips.as_slice().iter().any(|listed| *listed == trip)
+        self.marks.has(trip) && self.trips.as_slice().iter().any(|listed| *listed == trip)
     }
 
     // Lists a trip, where an entry is left.
@@ -32,7 +40,9 @@ impl CancelledTrips {
         ensures room { result ≡ (if nat_lt (length (items self.old.trips)) most_listed then Some tt else None) }
         ensures listed { items self.new.trips ≡ (if nat_lt (length (items self.old.trips)) most_listed then items self.old.trips ++ trip ∷ [] else items self.old.trips) }
     {
-        self.trips.push(trip)
+        let listed = self.trips.push(trip);
+        self.marks = marks_of(&self.trips);
+        listed
     }
 
     // Takes a trip out.
@@ -40,6 +50,7 @@ impl CancelledTrips {
         ensures { items self.new.trips ≡ without itself trip (items self.old.trips) }
     {
         self.trips.retain(|listed| *listed != trip);
+        self.marks = marks_of(&self.trips);
     }
 }
 
@@ -63,11 +74,11 @@ impl<T: Timetable> Layer<T, CancelledTrips> {
         ensures set { cancelled_in result ≡ (λ _. false) }
         ensures under { result.below ≡ below }
     {
+        let trips = ShortList::empty(0);
+        let marks = marks_of(&trips);
         Layer {
             below,
-            changes: CancelledTrips {
-                trips: ShortList::empty(0),
-            },
+            changes: CancelledTrips { trips, marks },
         }
     }
 

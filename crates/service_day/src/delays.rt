@@ -1,4 +1,4 @@
-ghost use Rattle.std.specs.Prelude.{◌≡◌, ◌<◌, ◌≤◌, ◌==◌, ◌&&◌, false, [], ◌∷◌, ◌++◌, find, length};
+ghost use Rattle.std.specs.Prelude.{◌≡◌, ◌<◌, ◌≤◌, ◌==◌, ◌&&◌, true, false, [], ◌∷◌, ◌++◌, find, length};
 ghost use Rattle.short_list.specs.Items.{items};
 ghost use Rattle.timetable.specs.Table.{trips_of};
 ghost use Rattle.service_day.specs.Changes.{delayed_by};
@@ -7,6 +7,7 @@ ghost use Rattle.service_day.specs.declared.delay.Delay.{Delay as DelayOf};
 ghost use Rattle.service_day.specs.DelayTables.{trip_of};
 ghost use Rattle.service_day.specs.LayerRule.{delayed_gentle};
 ghost use Rattle.service_day.specs.Layers.{delay_in, late_in};
+ghost use Rattle.service_day.specs.Marks.{all_marked};
 ghost use Rattle.service_day.specs.Refusals.{told, left};
 ghost use Rattle.service_day.specs.Tables.{most_listed, trip_numbers, listed, without};
 
@@ -15,6 +16,7 @@ use crate::delay::Delay;
 use crate::delayed_trips::DelayedTrips;
 use crate::layer::{Changes, Layer, MOST_LISTED};
 use crate::refusal::Refusal;
+use crate::trip_marks::TripMarks;
 use short_list::ShortList;
 use timetable::{Hop, Timetable};
 
@@ -32,6 +34,12 @@ const BLANK: Delay = Delay {
 // A timetable in which the listed trips run late.
 pub type Delays<T> = Layer<T, DelayedTrips>;
 
+fn marks_of(delays: &ShortList<Delay, MOST_LISTED>) -> TripMarks
+    ensures { all_marked trip_of result.marks (items delays.now) ≡ true }
+{
+    TripMarks::of(delays.as_slice(), |delay| delay.trip)
+}
+
 impl DelayedTrips {
     fn entry(&self, trip: u32) -> Option<Delay>
         ensures { result ≡ find (λ (d : DelayOf). d.trip == trip) (items self.now.delays) }
@@ -45,6 +53,9 @@ impl DelayedTrips {
     fn seconds(&self, trip: u32) -> u32
         ensures { result ≡ late_in self.now trip }
     {
+        if !self.marks.has(trip) {
+            return NO_DELAY;
+        }
         self.entry(trip).map_or(NO_DELAY, |delay| delay.seconds)
     }
 
@@ -60,6 +71,7 @@ impl DelayedTrips {
         ensures { items self.new.delays ≡ without trip_of trip (items self.old.delays) }
     {
         self.delays.retain(|delay| delay.trip != trip);
+        self.marks = marks_of(&self.delays);
     }
 
     // Lists the delay of a trip that is not listed, where an entry is left.
@@ -72,6 +84,7 @@ impl DelayedTrips {
         ensures { items self.new.delays ≡ items self.old.delays ++ delay ∷ [] }
     {
         self.delays.push(delay).unwrap();
+        self.marks = marks_of(&self.delays);
     }
 }
 
@@ -91,11 +104,11 @@ impl<T: Timetable> Layer<T, DelayedTrips> {
         ensures delay { delay_in result ≡ (λ _. 0) }
         ensures under { result.below ≡ below }
     {
+        let delays = ShortList::empty(BLANK);
+        let marks = marks_of(&delays);
         Layer {
             below,
-            changes: DelayedTrips {
-                delays: ShortList::empty(BLANK),
-            },
+            changes: DelayedTrips { delays, marks },
         }
     }
 

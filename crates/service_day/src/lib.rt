@@ -17,6 +17,7 @@ mod delays;
 mod layer;
 mod refusal;
 mod refusal_numbers;
+mod trip_marks;
 mod whole_days;
 
 pub use cancellations::Cancellations;

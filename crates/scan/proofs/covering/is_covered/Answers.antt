@@ -20,8 +20,8 @@ loop-at-smaller g c =
     let to = c.args.candidate.now in
     let ls = labels_of c.args.labels.now in
     let at = subst (Seeking stop_of (slot to.stop) (λ x. covers f x to) (covers_none f to) ls) c.in-Some.is c.loop-at.invariant in
-    subst (λ o. remaining (length ls) c.label-stored.result.now.next < remaining (length ls) o) (sym c.in-Some.is)
-    (nearer stop_of (slot to.stop) ls c.in-Some.place (slot c.label-stored.result.now.label.stop) at.inside.1 c.label-stored.result.now.next c.label-stored.ensures.next)
+    subst (λ o. remaining (length ls) c.place-at.result < remaining (length ls) o) (sym c.in-Some.is)
+    (nearer stop_of (slot to.stop) ls c.in-Some.place (slot c.label-stored.result.now.label.stop) at.inside.1 c.place-at.result (c.place-at.ensures ∙ c.label-stored.ensures.next))
 
 pub loop-at-preserved : goal.loop-at-preserved
 loop-at-preserved g c =
@@ -29,5 +29,5 @@ loop-at-preserved g c =
     let to = c.args.candidate.now in
     let ls = labels_of c.args.labels.now in
     let at = subst (Seeking stop_of (slot to.stop) (λ x. covers f x to) (covers_none f to) ls) c.in-Some.is c.loop-at.invariant in
-    seeks_on stop_of (slot to.stop) (λ x. covers f x to) (covers_none f to) ls c.in-Some.place c.label-stored.result.now.label c.label-stored.result.now.next at c.label-stored.ensures.here
-    (sym c.label_covers.ensures ∙ c.if-label_covers.false) c.label-stored.ensures.next
+    seeks_on stop_of (slot to.stop) (λ x. covers f x to) (covers_none f to) ls c.in-Some.place c.label-stored.result.now.label c.place-at.result at c.label-stored.ensures.here
+    (sym c.label_covers.ensures ∙ c.if-label_covers.false) (c.place-at.ensures ∙ c.label-stored.ensures.next)

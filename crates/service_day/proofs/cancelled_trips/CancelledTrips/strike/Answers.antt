@@ -7,4 +7,4 @@ use Rattle.service_day.proofs.cancelled_trips.CancelledTrips.strike.Goals as goa
 pub invariant_of-self : goal.invariant_of-self
 invariant_of-self c =
     let struck : items c.retain.new.self ≡ without itself c.args.trip (items c.args.self.now.trips) = c.retain.ensures _ (λ x b k. search rules) in
-    record { tidy = ap (tidy itself) struck ∙ still_tidy_without itself c.args.trip (items c.args.self.now.trips) c.args.self.now.tidy }
+    record { marked = c.marks_of-self.ensures; tidy = ap (tidy itself) struck ∙ still_tidy_without itself c.args.trip (items c.args.self.now.trips) c.args.self.now.tidy }

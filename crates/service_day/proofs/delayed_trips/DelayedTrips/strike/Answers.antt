@@ -11,5 +11,6 @@ invariant_of-self c =
     let struck : items c.retain.new.self ≡ without trip_of c.args.trip (items c.args.self.now.delays) = c.retain.ensures _ (λ x b k. search rules) in
     record {
       tidy = ap (tidy trip_of) struck ∙ still_tidy_without trip_of c.args.trip (items c.args.self.now.delays) c.args.self.now.tidy;
+      marked = c.marks_of-self.ensures;
       late = ap all_late struck ∙ late_without c.args.trip (items c.args.self.now.delays) c.args.self.now.late;
     }
