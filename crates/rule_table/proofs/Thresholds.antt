@@ -1,95 +1,104 @@
 -- Thresholds that are lowered rule by rule, and why nothing is met before one is reached. Assumes nothing.
-use Rattle.std.proofs.Common.{◌≡◌, ℕ, ◌+◌, ◌<◌, ◌≤◌, ◌==◌, ◌&&◌, ◌⊎◌, Bool, true, false, cond, max, List, [], ◌∷◌, length, get_or, take, set, sym, refl, ap, ◌∙◌, inl, inr, arith, nat_le, nat_lt}
-use Rattle.std.proofs.lemmas.Bool.{and_parts, and_from, or_cases, or_left, or_right, leb-true, ltb-true, le-leb, eqb-true, cases_eq}
-use Rattle.std.proofs.lemmas.List.{get_or-set_same, get_or-set_other}
-use Rattle.std.proofs.lemmas.List.Folds.{list_all_more}
+use Rattle.std.proofs.Common.{◌≡◌, ℕ, zero, suc, ◌+◌, ◌<◌, ◌≤◌, ◌==◌, ◌&&◌, ◌⊎◌, not, Bool, true, false, cond, max, List, [], ◌∷◌, length, get_or, take, set, replicate, sym, refl, ap, ◌∙◌, subst, inl, inr, arith, nat_le, nat_lt}
+use Rattle.std.specs.Prelude.{min, fold}
+use Rattle.std.proofs.Math.Nat.{min-le_left, min-le_right, mod-lt}
+use Rattle.std.proofs.lemmas.Bool.{and_parts, and_from, leb-true, ltb-true, eqb-true, eq-eqb, ne_eqb, cases_eq}
+use Rattle.std.proofs.lemmas.List.{get_or-set_same, get_or-set_other, get_or-replicate, length-replicate, length-set}
+use Rattle.std.proofs.lemmas.List.Sums.{fold_more}
 use Rattle.fares.specs.declared.gauges.Gauges.{Gauges}
+use Rattle.fares.specs.Limits.{top_reading}
 use Rattle.fares.specs.Readings.{largest_readings}
 use Rattle.rule_table.specs.declared.rule.Rule.{Rule}
 use Rattle.rule_table.specs.Rules.{event_among, at_least, raised_by, next_from}
 use Rattle.rule_table.specs.Spans.{spot, spots}
-use Rattle.rule_table.specs.Thresholds.{short_of, heeds, heeded}
+use Rattle.rule_table.specs.Thresholds.{short_of, asks_metres, asks_stops, asks_zones, asks_level, lowered_by, least, Leasts, Thresholds}
 
--- the tests in plain facts
-abbrev Heeds : Gauges → Gauges → Type 0
+pub spot_within : (k : ℕ) → spot k < spots
+unfolding spot
+spot_within k = mod-lt k (omega arith)
+
+-- One gauge.
+module _ (reading : Gauges → ℕ) (asks : Gauges → Bool) where
+  abbrev step : ℕ → ℕ → Rule → ℕ
+  step = lowered_by reading asks
+
+  pub no_least : reading largest_readings ≡ top_reading → Leasts reading asks (replicate spots largest_readings) []
+  no_least e k h = ap reading (get_or-replicate spots k largest_readings largest_readings h) ∙ e
+
+  -- a rule more, for which the thresholds of its spot are lowered
+  pub one_least : (ts : List Gauges) (rs : List Rule) (n : ℕ) (r : Rule) (s : ℕ) (old new : Gauges) → length ts ≡ spots → s < spots → n < length rs → r ≡ get_or rs n r → s ≡ spot r.ticket → old ≡ get_or ts s largest_readings
+      → reading new ≡ cond (asks r.minima) (min (reading old) (reading r.minima)) (reading old) → Leasts reading asks ts (take n rs) → Leasts reading asks (set ts s new) (take (n + 1) rs)
+  one_least ts rs n r s old new sized within there is spot_is old_is new_is before k h =
+      elim (cases_eq k s) [
+        | inl e ↦
+            ap (λ (j : ℕ). reading (get_or (set ts s new) j largest_readings)) e ∙ ap reading (get_or-set_same ts s new largest_readings (omega (arith, sized, within))) ∙ new_is
+            ∙ ap (λ (m : ℕ). cond (asks r.minima) (min m (reading r.minima)) m) (ap reading old_is ∙ before s within)
+            ∙ sym (ap (λ b. cond (b && asks r.minima) (min (least reading asks s (take n rs)) (reading r.minima)) (least reading asks s (take n rs))) (eq-eqb (spot r.ticket) s (sym spot_is)))
+            ∙ ap (λ (j : ℕ). step j (least reading asks j (take n rs)) r) (sym e)
+        | inr ne ↦
+            ap reading (get_or-set_other ts s k new largest_readings ne) ∙ before k h
+            ∙ sym (ap (λ b. cond (b && asks r.minima) (min (least reading asks k (take n rs)) (reading r.minima)) (least reading asks k (take n rs))) (ne_eqb (spot r.ticket) k (λ q. ne (sym q ∙ sym spot_is))))
+      ]
+      ∙ ap (step k (least reading asks k (take n rs))) is
+      ∙ sym (fold_more (step k) top_reading rs n r there)
+
+  lowers : (k : ℕ) (rs : List Rule) (held : ℕ) → fold (step k) held rs ≤ held
+  lowers k [] held = omega arith
+  lowers k (r ∷ rs) held = let a = lowers k rs (step k held r) in let b = once (spot r.ticket == k && asks r.minima) in omega (arith, a, b)
+    where
+      once : (b : Bool) → cond b (min held (reading r.minima)) held ≤ held
+      once true = min-le_left held (reading r.minima)
+      once false = omega arith
+
+  -- no rule that asks there has a lower minimum
+  pub least_below : (k : ℕ) (rs : List Rule) (held j : ℕ) (r : Rule) → j < length rs → r ≡ get_or rs j r → spot r.ticket ≡ k → asks r.minima ≡ true → fold (step k) held rs ≤ reading r.minima
+  least_below k [] held j r h e s a = absurd (omega (arith, h))
+  least_below k (x ∷ rs) held zero r h e s a =
+      let here : step k held r ≡ min held (reading r.minima) = ap (λ b. cond b (min held (reading r.minima)) held) (and_from (spot r.ticket == k) (asks r.minima) (eq-eqb (spot r.ticket) k s) a) in
+      let low = lowers k rs (step k held r) in
+      subst (λ (y : Rule). fold (step k) (step k held y) rs ≤ reading r.minima) e (omega (arith, low, here, min-le_right held (reading r.minima)))
+  least_below k (x ∷ rs) held (suc j) r h e s a = least_below k rs (step k held x) j r (omega (arith, h)) e s a
+
+-- All four.
+pub no_thresholds : Thresholds (replicate spots largest_readings) []
+no_thresholds = record {
+  sized = length-replicate spots largest_readings;
+  metres = no_least (λ g. g.metres) asks_metres refl;
+  stops = no_least (λ g. g.stops) asks_stops refl;
+  zones = no_least (λ g. g.zones) asks_zones refl;
+  level = no_least (λ g. g.level) asks_level refl;
+}
+
+-- some threshold is no higher than the minimum at its gauge
+abbrev pub Heeds : Gauges → Gauges → Type 0
 Heeds t m = (t.metres ≤ m.metres) ⊎ ((t.stops ≤ m.stops) ⊎ ((t.zones ≤ m.zones) ⊎ (t.level ≤ m.level)))
 
-heeds_facts : (t m : Gauges) → heeds t m ≡ true → Heeds t m
-heeds_facts t m e = elim (or_cases (nat_le t.metres m.metres) _ e) [
-  | inl a ↦ inl (leb-true t.metres m.metres a)
-  | inr b ↦ elim (or_cases (nat_le t.stops m.stops) _ b) [
-    | inl a ↦ inr (inl (leb-true t.stops m.stops a))
-    | inr c ↦ elim (or_cases (nat_le t.zones m.zones) _ c) [
-      | inl a ↦ inr (inr (inl (leb-true t.zones m.zones a)))
-      | inr d ↦ inr (inr (inr (leb-true t.level m.level d)))
-    ]
-  ]
-]
-
-pub heeds_tested : (t m : Gauges) → Heeds t m → heeds t m ≡ true
-heeds_tested t m (inl a) = or_left (nat_le t.metres m.metres) _ (le-leb t.metres m.metres a)
-heeds_tested t m (inr (inl a)) = or_right (nat_le t.metres m.metres) _ (or_left (nat_le t.stops m.stops) _ (le-leb t.stops m.stops a))
-heeds_tested t m (inr (inr (inl a))) = or_right (nat_le t.metres m.metres) _ (or_right (nat_le t.stops m.stops) _ (or_left (nat_le t.zones m.zones) _ (le-leb t.zones m.zones a)))
-heeds_tested t m (inr (inr (inr a))) = or_right (nat_le t.metres m.metres) _ (or_right (nat_le t.stops m.stops) _ (or_right (nat_le t.zones m.zones) _ (le-leb t.level m.level a)))
-
-abbrev Reached : Gauges → Gauges → Type 0
-Reached m g = (m.metres ≤ g.metres) × (m.stops ≤ g.stops) × (m.zones ≤ g.zones) × (m.level ≤ g.level)
-
-reached_facts : (m g : Gauges) → at_least m g ≡ true → Reached m g
-reached_facts m g e =
-    let a = and_parts (nat_le m.metres g.metres) _ e in
-    let b = and_parts (nat_le m.stops g.stops) _ a.1 in
-    let c = and_parts (nat_le m.zones g.zones) _ b.1 in
-    (leb-true _ _ a.0, leb-true _ _ b.0, leb-true _ _ c.0, leb-true _ _ c.1)
-
-pub reached_tested : (m g : Gauges) → Reached m g → at_least m g ≡ true
-reached_tested m g r = and_from _ _ (le-leb _ _ r.0) (and_from _ _ (le-leb _ _ r.1) (and_from _ _ (le-leb _ _ r.2) (le-leb _ _ r.3)))
-
--- lower thresholds heed what higher ones do
-lower_heeds : (new old m : Gauges) → at_least new old ≡ true → heeds old m ≡ true → heeds new m ≡ true
-lower_heeds new old m l h = heeds_tested new m (go (heeds_facts old m h))
+-- it is that of the gauge at which the rule asks first
+pub heeds : (ts : List Gauges) (rs : List Rule) → Thresholds ts rs → (j : ℕ) (r : Rule) → j < length rs → r ≡ get_or rs j r → spot r.ticket < spots → Heeds (get_or ts (spot r.ticket) largest_readings) r.minima
+heeds ts rs t j r h e within = go (nat_lt 0 m.metres) (nat_lt 0 m.stops) (nat_lt 0 m.zones) refl refl refl
   where
-    low : Reached new old
-    low = reached_facts new old l
+    m : Gauges
+    m = r.minima
 
-    go : Heeds old m → Heeds new m
-    go (inl a) = inl (omega (arith, a, low.0))
-    go (inr (inl a)) = inr (inl (omega (arith, a, low.1)))
-    go (inr (inr (inl a))) = inr (inr (inl (omega (arith, a, low.2))))
-    go (inr (inr (inr a))) = inr (inr (inr (omega (arith, a, low.3))))
+    k : ℕ
+    k = spot r.ticket
 
--- the thresholds of a spot are lowered
-module _ (ts : List Gauges) (sized : length ts ≡ spots) (s : ℕ) (within : s < spots) (new : Gauges) (lower : at_least new (get_or ts s largest_readings) ≡ true) where
-  abbrev now : List Gauges
-  now = set ts s new
-
-  here : get_or now s largest_readings ≡ new
-  here = get_or-set_same ts s new largest_readings (omega (arith, sized, within))
-
-  stays : (k : ℕ) (m : Gauges) → heeds (get_or ts k largest_readings) m ≡ true → heeds (get_or now k largest_readings) m ≡ true
-  stays k m h = elim (cases_eq k s) [
-    | inl e ↦ ap (λ (j : ℕ). heeds (get_or now j largest_readings) m) e ∙ ap (λ t. heeds t m) here
-        ∙ lower_heeds new (get_or ts s largest_readings) m lower (ap (λ (j : ℕ). heeds (get_or ts j largest_readings) m) (sym e) ∙ h)
-    | inr ne ↦ ap (λ t. heeds t m) (get_or-set_other ts s k new largest_readings ne) ∙ h
-  ]
-
-  all_stay : (rs : List Rule) → heeded ts rs ≡ true → heeded now rs ≡ true
-  all_stay [] e = refl
-  all_stay (r ∷ rs) e = let p = and_parts (heeds (get_or ts (spot r.ticket) largest_readings) r.minima) _ e in and_from _ _ (stays (spot r.ticket) r.minima p.0) (all_stay rs p.1)
-
-  -- so that they heed one rule more
-  pub one_heeded : (rs : List Rule) (n : ℕ) (r : Rule) → n < length rs → r ≡ get_or rs n r → s ≡ spot r.ticket → heeds new r.minima ≡ true → heeded ts (take n rs) ≡ true → heeded now (take (n + 1) rs) ≡ true
-  one_heeded rs n r h is spot_is one before =
-      list_all_more (λ x. heeds (get_or now (spot x.ticket) largest_readings) x.minima) rs n r h
-      ∙ and_from _ _ (all_stay (take n rs) before)
-      (ap (λ (x : Rule). heeds (get_or now (spot x.ticket) largest_readings) x.minima) (sym is) ∙ ap (λ (j : ℕ). heeds (get_or now j largest_readings) r.minima) (sym spot_is) ∙ ap (λ t. heeds t r.minima) here ∙ one)
+    go : (a b c : Bool) → nat_lt 0 m.metres ≡ a → nat_lt 0 m.stops ≡ b → nat_lt 0 m.zones ≡ c → Heeds (get_or ts k largest_readings) m
+    go true b c p q u = inl (let x = least_below (λ g. g.metres) asks_metres k rs top_reading j r h e refl p in let y = t.metres k within in omega (arith, x, y))
+    go false true c p q u = inr (inl (let x = least_below (λ g. g.stops) asks_stops k rs top_reading j r h e refl (λ v. not (p v) && q v) in let y = t.stops k within in omega (arith, x, y)))
+    go false false true p q u = inr (inr (inl (let x = least_below (λ g. g.zones) asks_zones k rs top_reading j r h e refl (λ v. not (p v) && (not (q v) && u v)) in let y = t.zones k within in omega (arith, x, y))))
+    go false false false p q u = inr (inr (inr (let x = least_below (λ g. g.level) asks_level k rs top_reading j r h e refl (λ v. not (p v) && (not (q v) && not (u v))) in let y = t.level k within in omega (arith, x, y))))
 
 module _ (t g : Gauges) (short : short_of t g ≡ true) where
-  not_reached : (m : Gauges) → heeds t m ≡ true → at_least m g ≡ true → ⊥
-  not_reached m h a = go (heeds_facts t m h)
+  not_reached : (m : Gauges) → Heeds t m → at_least m g ≡ true → ⊥
+  not_reached m h a = go h
     where
-      r : Reached m g
-      r = reached_facts m g a
+      r : (m.metres ≤ g.metres) × (m.stops ≤ g.stops) × (m.zones ≤ g.zones) × (m.level ≤ g.level)
+      r =
+          let x = and_parts (nat_le m.metres g.metres) _ a in
+          let y = and_parts (nat_le m.stops g.stops) _ x.1 in
+          let z = and_parts (nat_le m.zones g.zones) _ y.1 in
+          (leb-true _ _ x.0, leb-true _ _ y.0, leb-true _ _ z.0, leb-true _ _ z.1)
 
       below : (g.metres < t.metres) × (g.stops < t.stops) × (g.zones < t.zones) × (g.level < t.level)
       below =
@@ -106,7 +115,7 @@ module _ (t g : Gauges) (short : short_of t g ≡ true) where
 
 -- where no gauge has reached its threshold, no rule of the ticket is met
 module _ (ts : List Gauges) (k : ℕ) (g : Gauges) (ev : ℕ) (short : short_of (get_or ts (spot k) largest_readings) g ≡ true) where
-  idle : (r : Rule) (held : ℕ) → heeds (get_or ts (spot r.ticket) largest_readings) r.minima ≡ true → raised_by r k g ev held ≡ held
+  idle : (r : Rule) (held : ℕ) → Heeds (get_or ts (spot r.ticket) largest_readings) r.minima → raised_by r k g ev held ≡ held
   idle r held h = go (r.ticket == k) (event_among r.events ev) (at_least r.minima g) refl refl
     where
       go : (a b c : Bool) → (r.ticket == k) ≡ a → at_least r.minima g ≡ c → cond (a && (b && c)) (max held r.target) held ≡ held
@@ -114,10 +123,8 @@ module _ (ts : List Gauges) (k : ℕ) (g : Gauges) (ev : ℕ) (short : short_of 
       go true false c p q = refl
       go true true false p q = refl
       go true true true p q =
-          absurd (not_reached (get_or ts (spot k) largest_readings) g short r.minima (ap (λ (j : ℕ). heeds (get_or ts (spot j) largest_readings) r.minima) (sym (eqb-true r.ticket k p)) ∙ h) q)
+          absurd (not_reached (get_or ts (spot k) largest_readings) g short r.minima (subst (λ (j : ℕ). Heeds (get_or ts (spot j) largest_readings) r.minima) (eqb-true r.ticket k p) h) q)
 
-  pub none_met : (rs : List Rule) (held : ℕ) → heeded ts rs ≡ true → next_from rs k g ev held ≡ held
-  none_met [] held h = refl
-  none_met (r ∷ rs) held h =
-      let p = and_parts (heeds (get_or ts (spot r.ticket) largest_readings) r.minima) _ h in
-      ap (next_from rs k g ev) (idle r held p.0) ∙ none_met rs held p.1
+  pub none_met : (rs : List Rule) (held : ℕ) → ((j : ℕ) (r : Rule) → j < length rs → r ≡ get_or rs j r → Heeds (get_or ts (spot r.ticket) largest_readings) r.minima) → next_from rs k g ev held ≡ held
+  none_met [] held all = refl
+  none_met (r ∷ rs) held all = ap (next_from rs k g ev) (idle r held (all 0 r (omega arith) refl)) ∙ none_met rs held (λ j x h e. all (suc j) x (omega (arith, h)) e)

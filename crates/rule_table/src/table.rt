@@ -3,7 +3,7 @@ ghost use Rattle.rule_table.specs.CoverTests.{covers_ticket};
 ghost use Rattle.rule_table.specs.Masks.{MaskRows};
 ghost use Rattle.rule_table.specs.RuleTables.{table_refusal};
 ghost use Rattle.rule_table.specs.Spans.{spanned};
-ghost use Rattle.rule_table.specs.Thresholds.{heeded};
+ghost use Rattle.rule_table.specs.Thresholds.{Thresholds};
 ghost use Rattle.short_list.specs.Items.{items};
 
 use crate::masks::Masks;
@@ -28,5 +28,5 @@ pub struct RuleTable {
     ghost opened: { is_some (table_refusal (items prices) (items rules) starts) ≡ false },
     ghost decided: { MaskRows (covers_ticket (length (items prices)) (items rules)) covered },
     ghost known: { spanned spans 0 (items rules) ≡ true },
-    ghost heeding: { heeded thresholds (items rules) ≡ true },
+    ghost heeding: { Thresholds thresholds (items rules) },
 }

@@ -1,6 +1,5 @@
-ghost use Rattle.std.specs.Prelude.{◌≡◌, true};
-ghost use Rattle.rule_table.specs.Rules.{at_least};
-ghost use Rattle.rule_table.specs.Thresholds.{short_of, heeds, heeded};
+ghost use Rattle.std.specs.Prelude.{◌≡◌, min, cond};
+ghost use Rattle.rule_table.specs.Thresholds.{short_of, asks_metres, asks_stops, asks_zones, asks_level, Thresholds};
 
 use crate::rule::Rule;
 use crate::sizes::TICKET_PLACES;
@@ -19,8 +18,10 @@ pub(crate) fn is_short_of(threshold: Gauges, gauges: Gauges) -> bool
 
 // One threshold is lowered to a rule's minimum: that of the first gauge at which the rule asks for anything.
 fn lowered(threshold: Gauges, minima: Gauges) -> Gauges
-    ensures lower { at_least result threshold ≡ true }
-    ensures heeds { heeds result minima ≡ true }
+    ensures metres { result.metres ≡ cond (asks_metres minima) (min threshold.metres minima.metres) threshold.metres }
+    ensures stops { result.stops ≡ cond (asks_stops minima) (min threshold.stops minima.stops) threshold.stops }
+    ensures zones { result.zones ≡ cond (asks_zones minima) (min threshold.zones minima.zones) threshold.zones }
+    ensures level { result.level ≡ cond (asks_level minima) (min threshold.level minima.level) threshold.level }
 {
     let mut lower = threshold;
     if minima.metres > 0 {
@@ -37,7 +38,7 @@ fn lowered(threshold: Gauges, minima: Gauges) -> Gauges
 
 // The thresholds of each ticket: none of its rules is met before a gauge has reached its own.
 pub(crate) fn thresholds_of(rules: &[Rule]) -> [Gauges; TICKET_PLACES]
-    ensures { heeded result rules.now ≡ true }
+    ensures { Thresholds result rules.now }
 {
     let mut thresholds = [Gauges::largest(); TICKET_PLACES];
     for rule in rules {

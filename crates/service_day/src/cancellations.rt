@@ -5,7 +5,7 @@ ghost use Rattle.service_day.specs.Changes.{cancelled_by};
 ghost use Rattle.service_day.specs.Days.{cancelling, reinstating};
 ghost use Rattle.service_day.specs.LayerRule.{cancelled_gentle};
 ghost use Rattle.service_day.specs.Layers.{cancelled_in, off_in};
-ghost use Rattle.service_day.specs.Marks.{all_marked};
+ghost use Rattle.service_day.specs.Marks.{MarksOf};
 ghost use Rattle.service_day.specs.Refusals.{told, left};
 ghost use Rattle.service_day.specs.Tables.{itself, most_listed, trip_numbers, without};
 
@@ -21,7 +21,7 @@ use timetable::{Hop, Timetable};
 pub type Cancellations<T> = Layer<T, CancelledTrips>;
 
 fn marks_of(trips: &ShortList<u32, MOST_LISTED>) -> TripMarks
-    ensures { all_marked itself result.marks (items trips.now) ≡ true }
+    ensures { MarksOf itself (items trips.now) result.marks }
 {
     TripMarks::of(trips.as_slice(), |trip| trip)
 }

@@ -1,6 +1,6 @@
 ghost use Rattle.std.specs.Prelude.{◌≡◌, true};
 ghost use Rattle.short_list.specs.Items.{items};
-ghost use Rattle.service_day.specs.Marks.{all_marked};
+ghost use Rattle.service_day.specs.Marks.{MarksOf};
 ghost use Rattle.service_day.specs.Tables.{itself, tidy as is_tidy};
 
 use crate::layer::MOST_LISTED;
@@ -13,5 +13,5 @@ pub struct CancelledTrips {
     pub(crate) trips: ShortList<u32, MOST_LISTED>,
     pub(crate) marks: TripMarks,
     ghost tidy: { is_tidy itself (items trips) ≡ true },
-    ghost marked: { all_marked itself marks.marks (items trips) ≡ true },
+    ghost marked: { MarksOf itself (items trips) marks.marks },
 }

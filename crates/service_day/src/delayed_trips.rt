@@ -1,7 +1,7 @@
 ghost use Rattle.std.specs.Prelude.{◌≡◌, true};
 ghost use Rattle.short_list.specs.Items.{items};
 ghost use Rattle.service_day.specs.DelayTables.{trip_of, all_late};
-ghost use Rattle.service_day.specs.Marks.{all_marked};
+ghost use Rattle.service_day.specs.Marks.{MarksOf};
 ghost use Rattle.service_day.specs.Tables.{tidy as is_tidy};
 
 use crate::delay::Delay;
@@ -15,6 +15,6 @@ pub struct DelayedTrips {
     pub(crate) delays: ShortList<Delay, MOST_LISTED>,
     pub(crate) marks: TripMarks,
     ghost tidy: { is_tidy trip_of (items delays) ≡ true },
-    ghost marked: { all_marked trip_of marks.marks (items delays) ≡ true },
+    ghost marked: { MarksOf trip_of (items delays) marks.marks },
     ghost late: { all_late (items delays) ≡ true },
 }

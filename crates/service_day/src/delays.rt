@@ -7,7 +7,7 @@ ghost use Rattle.service_day.specs.declared.delay.Delay.{Delay as DelayOf};
 ghost use Rattle.service_day.specs.DelayTables.{trip_of};
 ghost use Rattle.service_day.specs.LayerRule.{delayed_gentle};
 ghost use Rattle.service_day.specs.Layers.{delay_in, late_in};
-ghost use Rattle.service_day.specs.Marks.{all_marked};
+ghost use Rattle.service_day.specs.Marks.{MarksOf};
 ghost use Rattle.service_day.specs.Refusals.{told, left};
 ghost use Rattle.service_day.specs.Tables.{most_listed, trip_numbers, listed, without};
 
@@ -35,7 +35,7 @@ const BLANK: Delay = Delay {
 pub type Delays<T> = Layer<T, DelayedTrips>;
 
 fn marks_of(delays: &ShortList<Delay, MOST_LISTED>) -> TripMarks
-    ensures { all_marked trip_of result.marks (items delays.now) ≡ true }
+    ensures { MarksOf trip_of (items delays.now) result.marks }
 {
     TripMarks::of(delays.as_slice(), |delay| delay.trip)
 }

@@ -1,5 +1,5 @@
-ghost use Rattle.std.specs.Prelude.{◌≡◌, ◌<◌, ℕ, true, length};
-ghost use Rattle.service_day.specs.Marks.{mark_count, mark_of, marked, all_marked};
+ghost use Rattle.std.specs.Prelude.{◌≡◌, ◌<◌, ℕ, length};
+ghost use Rattle.service_day.specs.Marks.{mark_count, mark_of, marked, MarksOf};
 
 const MARKS: usize = 256;
 
@@ -22,7 +22,7 @@ impl TripMarks {
     // The marks of the trips of these entries.
     pub(crate) fn of<E: Copy, F: Fn(E) -> u32>(entries: &[E], trip: F) -> TripMarks
         requires { F.IsAlwaysCallable trip }
-        ensures { (key : E → ℕ) → ((e : E) (t : ℕ) → F.post trip e t → t ≡ key e) → all_marked key result.marks entries.now ≡ true }
+        ensures { (key : E → ℕ) → ((e : E) (t : ℕ) → F.post trip e t → t ≡ key e) → MarksOf key entries.now result.marks }
     {
         let mut marks = [false; MARKS];
         for entry in entries {
