@@ -1,7 +1,7 @@
 -- Fare states: how a fare starts, what an update makes of it, and when one covers another.
 -- Assumes nothing.
-use Rattle.std.specs.Prelude.{◌≡◌, ℕ, Bool, true, ◌&&◌}
-use Rattle.fares.specs.Limits.{change_event}
+use Rattle.std.specs.Prelude.{◌≡◌, ℕ, ◌≤◌, Bool, true, ◌&&◌}
+use Rattle.fares.specs.Limits.{change_event, top_event}
 use Rattle.fares.specs.Measures.{MeasureModel}
 use Rattle.fares.specs.Tariffs.{TariffModel}
 use Rattle.fares.specs.declared.fare_state.FareState.{FareState}
@@ -24,6 +24,6 @@ module _ {K W : Type 0} (t : TariffModel K) (m : MeasureModel W) where
   abbrev pub covers_state : FareState K W → FareState K W → Bool
   covers_state a b = t.covers a.ticket b.ticket && m.at_most a.weight b.weight
 
-  -- the same update on both keeps the one covering the other
+  -- the same update on both, at an event that there is, keeps the one covering the other
   abbrev pub KeepsCovering : Type 0
-  KeepsCovering = (x : W) (event : ℕ) (a b : FareState K W) → covers_state a b ≡ true → covers_state (update_state x event a) (update_state x event b) ≡ true
+  KeepsCovering = (x : W) (event : ℕ) (a b : FareState K W) → event ≤ top_event → covers_state a b ≡ true → covers_state (update_state x event a) (update_state x event b) ≡ true

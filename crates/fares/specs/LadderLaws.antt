@@ -20,6 +20,6 @@ pub ladder_laws : (first step : ℕ) → TariffLaws (ladder_model first step)
 ladder_laws first step = record {
   transitive = λ j k l p q. le-leb j l (omega (arith, leb-true));
   no_dearer = λ k l p. rung_rises first step k l (leb-true k l p);
-  monotone = λ k l g h e p a. le-leb _ _ (omega (arith, leb-true k l p, a.zones));
-  never_falls = λ k g e. rung_rises first step k (max k (min top_rung (g.zones - 1))) (omega arith);
+  monotone = λ k l g h e there p a. le-leb _ _ (omega (arith, leb-true k l p, a.zones));
+  never_falls = λ k g e there. rung_rises first step k (max k (min top_rung (g.zones - 1))) (omega arith);
 }

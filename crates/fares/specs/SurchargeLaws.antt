@@ -46,10 +46,10 @@ module _ {K : Type 0} (event extra : ℕ) (t : TariffModel K) (priced : Priced t
     no_dearer = λ k l p.
         let a = and_parts (t.covers k.below l.below) (not k.marked || l.marked) p in
         priced_up k.marked l.marked (t.price k.below) (t.price l.below) a.1 (laws.no_dearer k.below l.below a.0) (priced l.below);
-    monotone = λ k l g h e p le.
+    monotone = λ k l g h e there p le.
         let a = and_parts (t.covers k.below l.below) (not k.marked || l.marked) p in
-        and_from _ _ (laws.monotone k.below l.below g h e a.0 le) (marks_on k.marked l.marked (eqb e event) a.1);
-    never_falls = λ k g e.
+        and_from _ _ (laws.monotone k.below l.below g h e there a.0 le) (marks_on k.marked l.marked (eqb e event) a.1);
+    never_falls = λ k g e there.
         priced_up k.marked (k.marked || eqb e event) (t.price k.below) (t.price (t.next k.below g e))
-        (mark_stays k.marked (eqb e event)) (laws.never_falls k.below g e) (priced (t.next k.below g e));
+        (mark_stays k.marked (eqb e event)) (laws.never_falls k.below g e there) (priced (t.next k.below g e));
   }

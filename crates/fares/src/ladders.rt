@@ -1,4 +1,4 @@
-ghost use Rattle.std.specs.Prelude.{◌≡◌, ◌≤◌};
+ghost use Rattle.std.specs.Prelude.{◌≡◌, ◌≤◌, IfErr};
 ghost use Rattle.fares.specs.Ladders.{ladder_opened, ladder_model};
 ghost use Rattle.fares.specs.Limits.{top_first, top_step};
 ghost use Rattle.fares.specs.Refusals.{meant};
@@ -24,7 +24,8 @@ pub struct Ladder {
 
 impl Ladder {
     pub fn open(first: u32, step: u32) -> Result<Ladder, Refusal>
-        ensures { meant (λ t. (t.first, t.step)) result ≡ ladder_opened first step }
+        ensures opened { meant (λ t. (t.first, t.step)) result ≡ ladder_opened first step }
+        ensures refusal { IfErr result (λ e. e ≡ Refusal.Ladder) }
     {
         if first > TOP_FIRST || step > TOP_STEP {
             return Err(Refusal::Ladder);

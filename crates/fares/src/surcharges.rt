@@ -1,4 +1,4 @@
-ghost use Rattle.std.specs.Prelude.{◌≡◌, ◌≤◌};
+ghost use Rattle.std.specs.Prelude.{◌≡◌, ◌≤◌, IfErr};
 ghost use Rattle.fares.specs.Limits.{first_marking_event, top_event, least_extra, top_extra};
 ghost use Rattle.fares.specs.Refusals.{meant};
 ghost use Rattle.fares.specs.Surcharges.{surcharge_opened, surcharge_model};
@@ -29,7 +29,8 @@ pub struct Surcharge<T> {
 
 impl<T: Drop> Surcharge<T> {
     pub fn open(below: T, event: u8, extra: u32) -> Result<Surcharge<T>, Refusal>
-        ensures { meant (λ t. (t.below, t.event, t.extra)) result ≡ surcharge_opened below event extra }
+        ensures opened { meant (λ t. (t.below, t.event, t.extra)) result ≡ surcharge_opened below event extra }
+        ensures refusal { IfErr result (λ e. e ≡ Refusal.Surcharge) }
     {
         if event < FIRST_MARKING_EVENT
             || event > TOP_EVENT

@@ -182,7 +182,7 @@ module _ {S : Type 0} (w : Setup S) (timely : Timely w) (laws : FareLaws w.fare)
   -- a label at the destination has an offer that is at most the journey's
   met_offer : (dest limit : ℕ) (ls : List Leg) → Such w dest limit ls → (t p : ℕ) × Somewhere (With w.fare dest t p) (scan∞ w limit) × (t ≤ (offer_of w (last w ls)).arrival) × (p ≤ (offer_of w (last w ls)).price)
   met_offer dest limit ls u =
-      let x = some_out (λ l. Meets w.fare l (last w ls)) (scan∞ w limit) (complete w laws limit ls u.journey u.within) in
+      let x = some_out (λ l. Meets w.fare l (last w ls)) (scan∞ w limit) (complete w timely.kept laws limit ls u.journey u.within) in
       let l = x.0 in
       let m = x.1 in
       (l.time, fee w.fare l.rides l.state, with_of w.fare dest l (m.stop ∙ u.there) (scan∞ w limit) x.2, m.time, fee_least l.rides (last w ls).rides l.state (last w ls).state m.rides m.none m.state)

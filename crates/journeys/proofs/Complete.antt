@@ -4,6 +4,7 @@ use Rattle.std.proofs.lemmas.Bool.{cond_both, cond-true, eq-eqb, le-leb, and_fro
 use Rattle.journeys.specs.declared.label.Passenger.{Passenger}
 use Rattle.journeys.specs.declared.network.Footpath.{Footpath}
 use Rattle.timetable.specs.declared.hops.Hop.{Hop}
+use Rattle.timetable.specs.Rule.{Limits}
 use Rattle.journeys.specs.declared.label.Label.{Label}
 use Rattle.journeys.specs.Journey.{Leg}
 use Rattle.journeys.specs.Journey.{walk, ride}
@@ -17,7 +18,7 @@ use Rattle.journeys.proofs.Lists.{some_imp, some_left, some_right, some_map, som
 use Rattle.journeys.proofs.Meets.{Matches, Meets, matches_over, matches_hop, matches_boarded, offer_keeps, offer_meets}
 use Rattle.journeys.proofs.Grows.{Of, ridden, pass_grown, pass_up, foot_up, scan_up, in_round, before_walks}
 
-module _ {S : Type 0} (w : Setup S) (laws : FareLaws w.fare) where
+module _ {S : Type 0} (w : Setup S) (kept : (i : ℕ) → (hop_in w i).runs ≡ true → Limits (hop_in w i)) (laws : FareLaws w.fare) where
   abbrev pub Met : Place S → List (Label S) → Type 0
   Met p st = Somewhere (λ l. Meets w.fare l p) st
 
@@ -93,9 +94,9 @@ module _ {S : Type 0} (w : Setup S) (laws : FareLaws w.fare) where
       (next_finds (passenger w.fare i j l) (boarded w.fare p.rides p.state) (boarded_meets l.rides p.rides l.state p.state m.1.rides m.1.none m.1.state) ab)
 
   -- from the aboard list before the labels board to the one after the hop
-  carried_on : (k i : ℕ) (h : Hop) (q : Pass S) (t : S) → Aboard t (foldi (board∞ w k i h) 0 q.store (kept∞ w h q)) → Aboard (w.fare.hop h t) (carried∞ w k i h q)
+  carried_on : (k i : ℕ) (h : Hop) (q : Pass S) (t : S) → Limits h → Aboard t (foldi (board∞ w k i h) 0 q.store (kept∞ w h q)) → Aboard (w.fare.hop h t) (carried∞ w k i h q)
   unfolding carried∞
-  carried_on k i h q t s = some_map (λ e. Matches w.fare e.state t) (λ e. Matches w.fare e.state (w.fare.hop h t)) (rides_on w.fare h) (λ e m. matches_hop w.fare laws h e.state t m) (foldi (board∞ w k i h) 0 q.store (kept∞ w h q)) s
+  carried_on k i h q t m s = some_map (λ e. Matches w.fare e.state t) (λ e. Matches w.fare e.state (w.fare.hop h t)) (rides_on w.fare h) (λ e x. matches_hop w.fare laws h e.state t m x) (foldi (board∞ w k i h) 0 q.store (kept∞ w h q)) s
 
   hop_trip : (k i : ℕ) (h : Hop) (q : Pass S) → (hop∞ w k i h q).trip ≡ h.trip
   unfolding hop∞
@@ -110,17 +111,17 @@ module _ {S : Type 0} (w : Setup S) (laws : FareLaws w.fare) where
   hop_store k i h q e = ap (λ (x : Pass S). x.store) (cond-true h.runs _ _ e)
 
   -- a label that meets the place boards
-  gets_on : (p : Place S) (r i : ℕ) (h : Hop) (q : Pass S) → h.runs ≡ true → h.from ≡ p.stop → p.time ≤ h.departure → Somewhere (λ l. Of r l × Meets w.fare l p) q.store → Aboard (w.fare.hop h (boarded w.fare p.rides p.state)) (hop∞ w (suc r) i h q).aboard
-  gets_on p r i h q runs here later s =
-      rw (hop_aboard (suc r) i h q runs) (carried_on (suc r) i h q (boarded w.fare p.rides p.state)
+  gets_on : (p : Place S) (r i : ℕ) (h : Hop) (q : Pass S) → h.runs ≡ true → Limits h → h.from ≡ p.stop → p.time ≤ h.departure → Somewhere (λ l. Of r l × Meets w.fare l p) q.store → Aboard (w.fare.hop h (boarded w.fare p.rides p.state)) (hop∞ w (suc r) i h q).aboard
+  gets_on p r i h q runs m here later s =
+      rw (hop_aboard (suc r) i h q runs) (carried_on (suc r) i h q (boarded w.fare p.rides p.state) m
       (foldi_finds (board∞ w (suc r) i h) (λ l. Of r l × Meets w.fare l p) (Aboard (boarded w.fare p.rides p.state))
       (λ j l ab. board_finds p r i h here later j l ab) (board_keeps (λ e. Matches w.fare e.state (boarded w.fare p.rides p.state)) (suc r) i h)
       0 q.store (kept∞ w h q) s))
 
   -- who is aboard stays aboard
-  stays_on : (k i : ℕ) (h : Hop) (q : Pass S) (t : S) → h.runs ≡ true → q.trip ≡ h.trip → Aboard t q.aboard → Aboard (w.fare.hop h t) (hop∞ w k i h q).aboard
-  stays_on k i h q t runs same s =
-      rw (hop_aboard k i h q runs) (carried_on k i h q t
+  stays_on : (k i : ℕ) (h : Hop) (q : Pass S) (t : S) → h.runs ≡ true → Limits h → q.trip ≡ h.trip → Aboard t q.aboard → Aboard (w.fare.hop h t) (hop∞ w k i h q).aboard
+  stays_on k i h q t runs m same s =
+      rw (hop_aboard k i h q runs) (carried_on k i h q t m
       (foldi_keeps (board∞ w k i h) (Aboard t) (board_keeps (λ e. Matches w.fare e.state t) k i h) 0 q.store (kept∞ w h q)
       (rw (cond-true (eqb q.trip h.trip) q.aboard [] (eq-eqb _ _ same)) s)))
 
@@ -137,7 +138,7 @@ module _ {S : Type 0} (w : Setup S) (laws : FareLaws w.fare) where
       let f : i ≡ a = omega arith in
       let st = pass∞ w (suc r) (scan∞ w r) i in
       subst (λ (m : ℕ). Aboard (w.fare.hop (hop_in w m) (boarded w.fare p.rides p.state)) (hop∞ w (suc r) i (hop_in w i) st).aboard) e
-      (gets_on p r i (hop_in w i) st (o.running i (omega arith) h) (ap (λ (j : ℕ). (hop_in w j).from) f ∙ o.here) (subst (λ (j : ℕ). p.time ≤ (hop_in w j).departure) (sym f) o.later)
+      (gets_on p r i (hop_in w i) st (o.running i (omega arith) h) (kept i (o.running i (omega arith) h)) (ap (λ (j : ℕ). (hop_in w j).from) f ∙ o.here) (subst (λ (j : ℕ). p.time ≤ (hop_in w j).departure) (sym f) o.later)
       (grown_some (Of (suc r)) (λ l. Of r l × Meets w.fare l p) (scan∞ w r) st.store (pass_grown w (suc r) (scan∞ w r) i) s))
   riding p a b o r s (suc n) i e h =
       let f : i ≡ suc (a + n) = omega arith in
@@ -147,7 +148,7 @@ module _ {S : Type 0} (w : Setup S) (laws : FareLaws w.fare) where
       let same : st.trip ≡ (hop_in w i).trip =
       ap (λ (m : ℕ). (pass∞ w (suc r) (scan∞ w r) m).trip) f ∙ hop_trip (suc r) (a + n) (hop_in w (a + n)) (pass∞ w (suc r) (scan∞ w r) (a + n)) ∙ o.one_trip (a + n) (omega arith) (omega arith) ∙ sym (o.one_trip i (omega arith) h) in
       subst (λ (m : ℕ). Aboard (w.fare.hop (hop_in w m) t) (hop∞ w (suc r) i (hop_in w i) st).aboard) e
-      (stays_on (suc r) i (hop_in w i) st t (o.running i (omega arith) h) same before)
+      (stays_on (suc r) i (hop_in w i) st t (o.running i (omega arith) h) (kept i (o.running i (omega arith) h)) same before)
 
   ride_meets : (n : ℕ) (p : Place S) (a b : ℕ) → RideOk w p a b → suc p.rides ≤ n → Met p (scan∞ w n) → Met (after w p (ride a b)) (scan∞ w n)
   ride_meets n p a b o fits s =

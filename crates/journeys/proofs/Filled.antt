@@ -18,15 +18,15 @@ abbrev pub Throughout : {X : Type 0} → (X → Type 0) → (Full → X → Type
 Throughout P Q (on x) = P x
 Throughout P Q (ended q x) = Q q x
 
-all_then : {X : Type 0} (P R : X → Type 0) (Q : Full → X → Type 0) (r : Run X) (f : X → Run X) → Throughout P Q r → ((x : X) → P x → Throughout R Q (f x)) → Throughout R Q (and_then r f)
+pub all_then : {X : Type 0} (P R : X → Type 0) (Q : Full → X → Type 0) (r : Run X) (f : X → Run X) → Throughout P Q r → ((x : X) → P x → Throughout R Q (f x)) → Throughout R Q (and_then r f)
 all_then P R Q (on x) f p h = h x p
 all_then P R Q (ended q x) f p h = p
 
-all_each : {A X : Type 0} (P : X → Type 0) (Q : Full → X → Type 0) (f : ℕ → A → X → Run X) → ((i : ℕ) (a : A) (x : X) → P x → Throughout P Q (f i a x)) → (i : ℕ) (xs : List A) (x : X) → P x → Throughout P Q (run_each f i xs x)
+pub all_each : {A X : Type 0} (P : X → Type 0) (Q : Full → X → Type 0) (f : ℕ → A → X → Run X) → ((i : ℕ) (a : A) (x : X) → P x → Throughout P Q (f i a x)) → (i : ℕ) (xs : List A) (x : X) → P x → Throughout P Q (run_each f i xs x)
 all_each P Q f h i [] x p = p
 all_each P Q f h i (a ∷ xs) x p = all_then P P Q (f i a x) (run_each f (suc i) xs) (h i a x p) (all_each P Q f h (suc i) xs)
 
-all_within : {X Y : Type 0} (P : X → Type 0) (Q : Full → X → Type 0) (R : Y → Type 0) (T : Full → Y → Type 0) (g : X → Y) (r : Run X) → Throughout P Q r → ((x : X) → P x → R (g x)) → ((q : Full) (x : X) → Q q x → T q (g x)) → Throughout R T (within g r)
+pub all_within : {X Y : Type 0} (P : X → Type 0) (Q : Full → X → Type 0) (R : Y → Type 0) (T : Full → Y → Type 0) (g : X → Y) (r : Run X) → Throughout P Q r → ((x : X) → P x → R (g x)) → ((q : Full) (x : X) → Q q x → T q (g x)) → Throughout R T (within g r)
 all_within P Q R T g (on x) p a b = a x p
 all_within P Q R T g (ended q x) p a b = b q x p
 

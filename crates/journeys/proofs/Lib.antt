@@ -9,3 +9,4 @@ pub mod Best
 pub mod LawfulFare
 pub mod Filled
 pub mod Tracks
+pub mod Crowds

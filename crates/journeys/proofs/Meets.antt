@@ -2,6 +2,7 @@
 use Rattle.std.proofs.Common.{◌≡◌, ℕ, zero, suc, ◌≤◌, true, false, not, ◌||◌, eqb, leb, ◌⊎◌, List, [], ◌∷◌, ◌++◌, sym, ap, ◌∙◌, inl, inr, ⊎_elim, arith}
 use Rattle.std.proofs.lemmas.Bool.{and_parts, or_cases, not-true, leb-true, eqb-true, eq-eqb, cond_both, both_ways}
 use Rattle.timetable.specs.declared.hops.Hop.{Hop}
+use Rattle.timetable.specs.Rule.{Limits}
 use Rattle.journeys.specs.declared.label.Label.{Label}
 use Rattle.journeys.specs.Lists.{any, Somewhere}
 use Rattle.journeys.specs.Fare.{FareModel, FareLaws}
@@ -10,10 +11,6 @@ use Rattle.journeys.specs.Fare.{boarded}
 use Rattle.journeys.specs.Labels.{came_on_foot, covers}
 use Rattle.journeys.specs.Endless.{offer∞}
 use Rattle.journeys.proofs.Lists.{some_imp, some_left, some_right, any_some, Grown, grown_none, grown_one}
-
--- the place in a journey that a label stands for
-abbrev pub place : {S : Type 0} → Label S → Place S
-place l = record { stop = l.stop; time = l.time; rides = l.rides; foot = came_on_foot l.way; state = l.state }
 
 abbrev pub Matches : {S : Type 0} → FareModel S → S → S → Type 0
 Matches f s t = (s ≡ t) ⊎ (f.covers s t ≡ true)
@@ -57,9 +54,9 @@ module _ {S : Type 0} (f : FareModel S) (laws : FareLaws f) where
   matches_over r s t c (inl e) = inr (rw (sym e) c)
   matches_over r s t c (inr e) = inr (laws.transitive r s t c e)
 
-  pub matches_hop : (h : Hop) (s t : S) → Matches f s t → Matches f (f.hop h s) (f.hop h t)
-  matches_hop h s t (inl e) = inl (ap (f.hop h) e)
-  matches_hop h s t (inr e) = inr (laws.hop_keeps h s t e)
+  pub matches_hop : (h : Hop) (s t : S) → Limits h → Matches f s t → Matches f (f.hop h s) (f.hop h t)
+  matches_hop h s t kept (inl e) = inl (ap (f.hop h) e)
+  matches_hop h s t kept (inr e) = inr (laws.hop_keeps h s t kept e)
 
   pub matches_boarded : (r : ℕ) (s t : S) → Matches f s t → Matches f (boarded f r s) (boarded f r t)
   matches_boarded zero s t m = m

@@ -10,14 +10,15 @@ use Rattle.journeys.specs.Journey.{walk, ride}
 use Rattle.journeys.specs.declared.label.Way.{Way}
 use Rattle.journeys.specs.declared.label.Way.TheVariants.{Origin, Walked, Rode}
 use Rattle.journeys.specs.Lists.{foldi, any, Each, Eachi}
-use Rattle.journeys.specs.Journey.{Setup, Place, through, hop_in, path_in, no_path, after, start, last, LegOk, Journey}
+use Rattle.journeys.specs.Journey.{Setup, Place, through, hop_in, path_in, no_path, after, start, last, LegOk}
 use Rattle.journeys.specs.Fare.{boarded}
 use Rattle.journeys.specs.Labels.{came_on_foot, covers, label_by_walk, label_by_ride, passenger, fresh, rides_on, boards}
 use Rattle.journeys.specs.Endless.{Pass, offer∞, walk∞, walk_on∞, walks∞, kept∞, alight∞, hop∞, carried∞, pass∞, scan∞, first∞, board∞, seat∞}
+use Rattle.journeys.specs.Leading.{place, LegsLead, LabelsAreReached}
 use Rattle.journeys.specs.Traces.{legs_by, traces, legs_of}
-use Rattle.journeys.proofs.Meets.{place}
-use Rattle.journeys.proofs.Lists.{foldi_each, eachi_of, eachi_imp, eachi_push, eachi_at, each_imp, each_append, each_map, Grown, grown_none, grown_one, grown_trans}
+use Rattle.journeys.proofs.Lists.{foldi_each, eachi_of, eachi_imp, eachi_both, eachi_push, eachi_at, each_imp, each_append, each_map, Grown, grown_none, grown_one, grown_trans}
 use Rattle.journeys.proofs.Traces.{legs_stay, legs_push, end_push, ok_push}
+use Rattle.journeys.proofs.Grows.{scan_rides}
 use Rattle.journeys.proofs.Meets.{offer_grown}
 use Rattle.journeys.proofs.Times.{Timely, rested_time, later_is}
 
@@ -31,15 +32,10 @@ module _ {S : Type 0} (w : Setup S) (timely : Timely w) where
   abbrev Any : Label S → Type 0
   Any l = Unit {0}
 
-  -- the legs are a journey to where the label is
-  pub record Real (ls : List Leg) (l : Label S) : Type 0 where
-    pub journey : Journey w ls
-    pub ends : last w ls ≡ place l
-
   pub record Known (st : List (Label S)) (j : ℕ) (l : Label S) : Type 0 where
     pub is : j < length st
     pub earlier : Earlier j l.way
-    pub real : Real (legs_of st j) l
+    pub real : LegsLead w (legs_of st j) l
 
   abbrev pub Sound : List (Label S) → Type 0
   Sound st = Eachi (Known st) 0 st
@@ -47,15 +43,15 @@ module _ {S : Type 0} (w : Setup S) (timely : Timely w) where
   known_grown : (st b : List (Label S)) (j : ℕ) (l : Label S) → Grown Any st b → Known st j l → Known b j l
   known_grown st b j l g k = rw g.is (record { is = simp length-append (omega (arith, k.is)); earlier = k.earlier; real = rw (legs_stay st g.more j k.is) k.real })
 
-  push_sound : (st : List (Label S)) (c : Label S) → Sound st → Earlier (length st) c.way → Real (legs_by c.way (traces st)) c → Sound (st ++ (c ∷ []))
+  push_sound : (st : List (Label S)) (c : Label S) → Sound st → Earlier (length st) c.way → LegsLead w (legs_by c.way (traces st)) c → Sound (st ++ (c ∷ []))
   push_sound st c s before r = eachi_push (Known (st ++ (c ∷ []))) 0 st c
       (eachi_imp (Known st) (Known (st ++ (c ∷ []))) (λ j l k. known_grown st (st ++ (c ∷ [])) j l (grown_one Any st c tt) k) 0 st s)
       (subst (λ (n : ℕ). Known (st ++ (c ∷ [])) n c) (let z : length st ≡ 0 + length st = omega arith in z) (record { is = simp length-append (omega arith); earlier = before; real = rw (legs_push st c) r }))
 
-  offer_sound : (st : List (Label S)) (c : Label S) → Sound st → Earlier (length st) c.way → Real (legs_by c.way (traces st)) c → Sound (offer∞ w c st)
+  offer_sound : (st : List (Label S)) (c : Label S) → Sound st → Earlier (length st) c.way → LegsLead w (legs_by c.way (traces st)) c → Sound (offer∞ w c st)
   offer_sound st c s before r = cond_both (any (λ l. covers w.fare l c) st) st (st ++ (c ∷ [])) Sound (λ _. s) (λ _. push_sound st c s before r)
 
-  real_push : (ls : List Leg) (l : Label S) (g : Leg) (c : Label S) → Real ls l → LegOk w (place l) g → after w (place l) g ≡ place c → Real (ls ++ (g ∷ [])) c
+  real_push : (ls : List Leg) (l : Label S) (g : Leg) (c : Label S) → LegsLead w ls l → LegOk w (place l) g → after w (place l) g ≡ place c → LegsLead w (ls ++ (g ∷ [])) c
   real_push ls l g c r o e = record {
     journey = ok_push w (start w) ls g r.journey (subst (λ (p : Place S). LegOk w p g) (sym r.ends) o);
     ends = end_push w (start w) ls g ∙ ap (λ (p : Place S). after w p g) r.ends ∙ e;
@@ -66,7 +62,7 @@ module _ {S : Type 0} (w : Setup S) (timely : Timely w) where
     pub grown : Grown Any st b
     pub sound : Sound b
 
-  from_offer : (st b : List (Label S)) (c : Label S) → From st b → Earlier (length b) c.way → Real (legs_by c.way (traces b)) c → From st (offer∞ w c b)
+  from_offer : (st b : List (Label S)) (c : Label S) → From st b → Earlier (length b) c.way → LegsLead w (legs_by c.way (traces b)) c → From st (offer∞ w c b)
   from_offer st b c f before r = record { grown = grown_trans Any st b (offer∞ w c b) f.grown (offer_grown w Any c b tt); sound = offer_sound b c f.sound before r }
 
   -- walks
@@ -226,3 +222,9 @@ module _ {S : Type 0} (w : Setup S) (timely : Timely w) where
   pub scan_sound : (k : ℕ) → Sound (scan∞ w k)
   scan_sound zero = foot_sound 0 (first∞ w ∷ []) (record { is = omega arith; earlier = tt; real = record { journey = tt; ends = refl } }, tt)
   scan_sound (suc k) = foot_sound (suc k) (pass∞ w (suc k) (scan∞ w k) (length w.hops)).store (pass_sound (suc k) (scan∞ w k) (scan_sound k) (length w.hops) (omega arith)).sound
+
+  -- the legs traced to each label of the endless scan lead there, within the ride limit
+  pub labels_reached : (limit : ℕ) → LabelsAreReached w limit (scan∞ w limit)
+  labels_reached limit = eachi_both (λ j l. LegsLead w (legs_of (scan∞ w limit) j) l) (λ l. l.rides ≤ limit) 0 (scan∞ w limit)
+      (eachi_imp (Known (scan∞ w limit)) (λ j l. LegsLead w (legs_of (scan∞ w limit) j) l) (λ j l n. n.real) 0 (scan∞ w limit) (scan_sound limit))
+      (scan_rides w limit)

@@ -1,14 +1,16 @@
 -- How late a journey can end, and how many legs it can have.
 use Rattle.std.proofs.Common.{◌≡◌, ℕ, ◌+◌, ◌*◌, ◌<◌, ◌≤◌, Bool, true, false, List, [], ◌∷◌, length, ap, arith}
 use Rattle.std.proofs.lemmas.Bool.{true≢false}
+use Rattle.timetable.specs.Rule.{Limits}
 use Rattle.journeys.specs.Journey.{Setup, Place, Leg, walk, ride, hop_in, path_in, after, end, start, last, LegsOk, Journey}
 use Rattle.journeys.specs.Labels.{later}
 
--- what the limits of a question and the timetable rule give: nothing begins or arrives late, and no footpath is long
+-- what the limits of a question and the timetable rule give: nothing begins late, no footpath is long, and running hops
+-- keep their limits
 pub record Timely {S : Type 0} (w : Setup S) : Type 0 where
   pub departs : w.departure ≤ 172800
   pub short : (i : ℕ) → i < length w.paths → (path_in w i).seconds ≤ 3600
-  pub on_time : (i : ℕ) → (hop_in w i).runs ≡ true → (hop_in w i).arrival ≤ 172800
+  pub kept : (i : ℕ) → (hop_in w i).runs ≡ true → Limits (hop_in w i)
 
 -- a time that does not reach the largest one is not held there
 pub later_is : (t s : ℕ) → t ≤ 172800 → s ≤ 3600 → t + s ≡ later t s
@@ -24,7 +26,7 @@ module _ {S : Type 0} (w : Setup S) (t : Timely w) where
   end_rested : (p : Place S) (ls : List Leg) → LegsOk w p ls → (p.foot ≡ false → p.time ≤ 172800) → (end w p ls).foot ≡ false → (end w p ls).time ≤ 172800
   end_rested p [] o h e = h e
   end_rested p (walk i ∷ ls) o h e = end_rested (after w p (walk i)) ls o.1 (λ z. absurd (true≢false z)) e
-  end_rested p (ride a b ∷ ls) o h e = end_rested (after w p (ride a b)) ls o.1 (λ _. t.on_time b (o.0.running b o.0.forth (omega arith))) e
+  end_rested p (ride a b ∷ ls) o h e = end_rested (after w p (ride a b)) ls o.1 (λ _. (t.kept b (o.0.running b o.0.forth (omega arith))).by_the_end) e
 
   pub rested_time : (ls : List Leg) → Journey w ls → (last w ls).foot ≡ false → (last w ls).time ≤ 172800
   rested_time ls o = end_rested (start w) ls o (λ _. t.departs)
@@ -33,7 +35,7 @@ module _ {S : Type 0} (w : Setup S) (t : Timely w) where
   end_time p [] o h e = e
   end_time p (walk i ∷ ls) o h e = end_time (after w p (walk i)) ls o.1 (λ z. absurd (true≢false z)) (omega (arith, h o.0.rested, t.short i o.0.is))
   end_time p (ride a b ∷ ls) o h e =
-      let z = t.on_time b (o.0.running b o.0.forth (omega arith)) in
+      let z = (t.kept b (o.0.running b o.0.forth (omega arith))).by_the_end in
       end_time (after w p (ride a b)) ls o.1 (λ _. z) (omega arith)
 
   pub journey_time : (ls : List Leg) → Journey w ls → (last w ls).time ≤ 176400

@@ -18,7 +18,7 @@ use Rattle.journeys.specs.Scan.{Room, Stage, emptied, kept, with_aboard, with_st
 use Rattle.journeys.proofs.Grows.{hop_grown, pass_grown, foot_grown}
 use Rattle.journeys.proofs.Lists.{Grown}
 
-grown_longer : {A : Type 0} (P : A → Type 0) (xs ys : List A) → Grown P xs ys → length xs ≤ length ys
+pub grown_longer : {A : Type 0} (P : A → Type 0) (xs ys : List A) → Grown P xs ys → length xs ≤ length ys
 grown_longer P xs ys g = rw g.is (simp length-append (omega arith))
 
 -- A run in places for so many holds what the endless one holds, or that needs more places.
@@ -56,7 +56,7 @@ push_longer false xs x = simp length-append (omega arith)
 
 module _ {S : Type 0} (w : Setup S) (room : Room) where
   -- candidates offered to the store
-  tracks_offer : (c : Label S) (ls : List (Label S)) → length ls ≤ room.labels → Tracks room.labels (offer w.fare room.labels c ls) (offer∞ w c ls)
+  pub tracks_offer : (c : Label S) (ls : List (Label S)) → length ls ≤ room.labels → Tracks room.labels (offer w.fare room.labels c ls) (offer∞ w c ls)
   tracks_offer c ls h = tracks_push (λ l. covers w.fare l c) room.labels Store c ls h
 
   offer_longer : (c : Label S) (ls : List (Label S)) → length ls ≤ length (offer∞ w c ls)
@@ -90,7 +90,7 @@ module _ {S : Type 0} (w : Setup S) (room : Room) where
       go true = fold_grows room.labels (walk w.fare room.labels j l) (walk∞ w j l) (tracks_walk j l) (walk_longer j l) 0 w.paths ls
       go false = omega arith
 
-  tracks_walks : (k : ℕ) (ls : List (Label S)) → length ls ≤ room.labels → Tracks room.labels (walks w.fare room.labels w.paths k ls) (walks∞ w k ls)
+  pub tracks_walks : (k : ℕ) (ls : List (Label S)) → length ls ≤ room.labels → Tracks room.labels (walks w.fare room.labels w.paths k ls) (walks∞ w k ls)
   unfolding walks∞
   tracks_walks k ls h = tracks_each room.labels (walk_on w.fare room.labels w.paths k) (walk_on∞ w k) (tracks_walk_on k) (walk_on_longer k) 0 ls ls h
 
@@ -109,7 +109,7 @@ module _ {S : Type 0} (w : Setup S) (room : Room) where
       go true = push_longer (any (λ q. w.fare.covers q.state (passenger w.fare i j l).state) ps) ps (passenger w.fare i j l)
       go false = omega arith
 
-  tracks_boarding : (k i : ℕ) (h : Hop) (ls : List (Label S)) (ps : List (Passenger S)) → length ps ≤ room.aboard → Tracks room.aboard (run_each (board w.fare room.aboard k i h) 0 ls ps) (foldi (board∞ w k i h) 0 ls ps)
+  pub tracks_boarding : (k i : ℕ) (h : Hop) (ls : List (Label S)) (ps : List (Passenger S)) → length ps ≤ room.aboard → Tracks room.aboard (run_each (board w.fare room.aboard k i h) 0 ls ps) (foldi (board∞ w k i h) 0 ls ps)
   tracks_boarding k i h ls ps n = tracks_each room.aboard (board w.fare room.aboard k i h) (board∞ w k i h) (tracks_board k i h) (board_longer k i h) 0 ls ps n
 
   tracks_alighting : (k i : ℕ) (h : Hop) (ps : List (Passenger S)) (ls : List (Label S)) → length ls ≤ room.labels → Tracks room.labels (run_each (alight w.fare room.labels k i h) 0 ps ls) (foldi (alight∞ w k i h) 0 ps ls)
@@ -160,7 +160,7 @@ module _ {S : Type 0} (w : Setup S) (room : Room) where
       board_go (ended q ps) t = inr t
 
   -- who stays for a hop
-  kept_same : (h : Hop) (s : Stage S) (p : Pass S) → Same s p → ((kept h s).trip ≡ h.trip) × ((kept h s).aboard ≡ kept∞ w h p) × ((kept h s).store ≡ p.store) × (length (kept h s).aboard ≤ room.aboard) × (length (kept h s).store ≤ room.labels)
+  pub kept_same : (h : Hop) (s : Stage S) (p : Pass S) → Same s p → ((kept h s).trip ≡ h.trip) × ((kept h s).aboard ≡ kept∞ w h p) × ((kept h s).store ≡ p.store) × (length (kept h s).aboard ≤ room.aboard) × (length (kept h s).store ≤ room.labels)
   kept_same h s p m = elim (cases_Bool (eqb s.trip h.trip)) [
     | inl e ↦ (let x : kept h s ≡ s = cond-true (eqb s.trip h.trip) s (emptied h.trip s) e in
         let y : eqb p.trip h.trip ≡ true = ap (λ (n : ℕ). eqb n h.trip) (sym m.trip) ∙ e in (
@@ -180,7 +180,7 @@ module _ {S : Type 0} (w : Setup S) (room : Room) where
         ))
   ]
 
-  hop_beside : (k i : ℕ) (h : Hop) (s : Stage S) (p : Pass S) → Same s p → Beside (pass_hop w.fare room k i h s) (hop∞ w k i h p) (crowd∞ w k i h p)
+  pub hop_beside : (k i : ℕ) (h : Hop) (s : Stage S) (p : Pass S) → Same s p → Beside (pass_hop w.fare room k i h s) (hop∞ w k i h p) (crowd∞ w k i h p)
   unfolding pass_hop hop∞ carried∞
   hop_beside k i h s p m = go h.runs (kept_same h s p m) (λ x y. riding_beside k i h (kept h s) x y)
     where
@@ -196,7 +196,7 @@ module _ {S : Type 0} (w : Setup S) (room : Room) where
       go false g ran = (record { trip = refl; aboard = refl; store = m.store; aboard_fits = omega arith; store_fits = m.store_fits }, omega arith)
 
   -- the first i hops of a round
-  pass_beside : (k : ℕ) (s : Stage S) (ls : List (Label S)) → s.store ≡ ls → length s.store ≤ room.labels → (i : ℕ) → Beside (pass_hops w.fare room w.hops k s i) (pass∞ w k ls i) (pass_crowd∞ w k ls i)
+  pub pass_beside : (k : ℕ) (s : Stage S) (ls : List (Label S)) → s.store ≡ ls → length s.store ≤ room.labels → (i : ℕ) → Beside (pass_hops w.fare room w.hops k s i) (pass∞ w k ls i) (pass_crowd∞ w k ls i)
   pass_beside k s ls e n zero = (record { trip = refl; aboard = refl; store = e; aboard_fits = omega arith; store_fits = n }, omega arith)
   pass_beside k s ls e n (suc i) = go (pass_hops w.fare room w.hops k s i) (pass_beside k s ls e n i)
     where
@@ -225,7 +225,7 @@ module _ {S : Type 0} (w : Setup S) (room : Room) where
       go (on xs) t = (t.0 ∙ ap (walks∞ w k) e, t.1, c)
       go (ended q xs) t = inl (subst (λ l. room.labels < length (walks∞ w k l)) e t)
 
-  walks_longer : (k : ℕ) (ls : List (Label S)) → length ls ≤ length (walks∞ w k ls)
+  pub walks_longer : (k : ℕ) (ls : List (Label S)) → length ls ≤ length (walks∞ w k ls)
   walks_longer k ls = grown_longer _ _ _ (foot_grown w k ls)
 
   round_along : (k : ℕ) (s : Stage S) (ls : List (Label S)) (crowd : ℕ) → s.store ≡ ls → length s.store ≤ room.labels → crowd ≤ room.aboard
@@ -238,7 +238,7 @@ module _ {S : Type 0} (w : Setup S) (room : Room) where
       go (ended q t) (inl x) = inl (omega (arith, x, walks_longer (suc k) (pass∞ w (suc k) ls (count_of w.hops)).store))
       go (ended q t) (inr x) = inr (omega (arith, x))
 
-  rounds_along : count_of w.hops ≡ length w.hops → (s : Stage S) → s.store ≡ first∞ w ∷ [] → length s.store ≤ room.labels → (k : ℕ) → Along (rounds w.fare room w.hops w.paths s (suc k)) (scan∞ w k) (most_aboard∞ w k)
+  pub rounds_along : count_of w.hops ≡ length w.hops → (s : Stage S) → s.store ≡ first∞ w ∷ [] → length s.store ≤ room.labels → (k : ℕ) → Along (rounds w.fare room w.hops w.paths s (suc k)) (scan∞ w k) (most_aboard∞ w k)
   rounds_along few s e n zero = walking_along 0 (emptied 0 s) (first∞ w ∷ []) 0 e n (omega arith)
   rounds_along few s e n (suc k) = go (rounds w.fare room w.hops w.paths s (suc k)) (rounds_along few s e n k)
     where
@@ -250,14 +250,15 @@ module _ {S : Type 0} (w : Setup S) (room : Room) where
       go (ended q t) (inl x) = inl (omega (arith, x, longer))
       go (ended q t) (inr x) = inr (omega (arith, x))
 
+  -- at least the first label is written
+  pub first_longer : (k : ℕ) → 1 ≤ length (scan∞ w k)
+  first_longer zero = walks_longer 0 (first∞ w ∷ [])
+  first_longer (suc k) = omega (arith, first_longer k, grown_longer _ _ _ (pass_grown w (suc k) (scan∞ w k) (length w.hops)), walks_longer (suc k) (pass∞ w (suc k) (scan∞ w k) (length w.hops)).store)
+
   -- the whole scan
   pub scan_along : count_of w.hops ≡ length w.hops → (held : List (Passenger S)) (limit : ℕ) → Along (scan w.fare room w.hops w.paths (first∞ w) held limit) (scan∞ w limit) (most_aboard∞ w limit)
   scan_along few held limit = go (offer w.fare room.labels (first∞ w) []) (tracks_offer (first∞ w) [] (omega arith))
     where
-      first_longer : (k : ℕ) → 1 ≤ length (scan∞ w k)
-      first_longer zero = walks_longer 0 (first∞ w ∷ [])
-      first_longer (suc k) = omega (arith, first_longer k, grown_longer _ _ _ (pass_grown w (suc k) (scan∞ w k) (length w.hops)), walks_longer (suc k) (pass∞ w (suc k) (scan∞ w k) (length w.hops)).store)
-
       go : (r : Run (List (Label S))) → Tracks room.labels r (first∞ w ∷ []) → Along (and_then (within (with_store (blank held)) r) (λ s. rounds w.fare room w.hops w.paths s (suc limit))) (scan∞ w limit) (most_aboard∞ w limit)
       go (on ls) t = rounds_along few (with_store (blank held) ls) t.0 t.1 limit
       go (ended q ls) t = inl (omega (arith, t, first_longer limit))

@@ -2,6 +2,7 @@
 -- Assumes nothing.
 use Rattle.std.specs.Prelude.{◌≡◌, ℕ, zero, suc, ◌≤◌, Bool, true}
 use Rattle.timetable.specs.declared.hops.Hop.{Hop}
+use Rattle.timetable.specs.Rule.{Limits}
 
 pub record FareModel (S : Type 0) : Type 0 where
   -- the state of a journey that starts at a stop
@@ -20,9 +21,10 @@ abbrev pub boarded : {S : Type 0} → FareModel S → ℕ → S → S
 boarded f zero s = s
 boarded f (suc rides) s = f.change s
 
--- What completeness needs of fares. Covering need not be reflexive.
+-- What completeness needs of fares. Covering need not be reflexive. A hop is one that keeps what a running hop keeps: of other
+-- hops nothing is asked.
 pub record FareLaws {S : Type 0} (f : FareModel S) : Type 0 where
   pub transitive : (r s t : S) → f.covers r s ≡ true → f.covers s t ≡ true → f.covers r t ≡ true
   pub no_dearer : (s t : S) → f.covers s t ≡ true → f.price s ≤ f.price t
   pub change_keeps : (s t : S) → f.covers s t ≡ true → f.covers (f.change s) (f.change t) ≡ true
-  pub hop_keeps : (h : Hop) (s t : S) → f.covers s t ≡ true → f.covers (f.hop h s) (f.hop h t) ≡ true
+  pub hop_keeps : (h : Hop) (s t : S) → Limits h → f.covers s t ≡ true → f.covers (f.hop h s) (f.hop h t) ≡ true

@@ -10,3 +10,4 @@ pub mod Endless
 pub mod Traces
 pub mod Selection
 pub mod Answers
+pub mod Leading

@@ -1,7 +1,7 @@
 -- The laws of a rule table that is not refused.
 -- Assumes nothing.
 use Rattle.std.specs.Prelude.{◌≡◌, ℕ, zero, suc, ◌+◌, ◌/◌, ◌%◌, ◌^◌, ◌<◌, ◌≤◌, Bool, true, false, cond, ◌&&◌, leb, ◌⊎◌, List, [], ◌∷◌, length, is_some, Some, None, Decides, ◌==◌, nat_le, nat_lt, slice_index, slice_index_or, refl}
-use Rattle.std.proofs.Common.{inl, inr, ⊎_elim, sym, ap, ap₂, subst, subst₂, ◌∙◌, arith}
+use Rattle.std.proofs.Common.{inl, inr, ⊎_elim, sym, ap, subst, subst₂, ◌∙◌, arith}
 use Rattle.std.proofs.lemmas.Bool.{and_parts, leb-true, ltb-true, cases_Bool, cases_lt, true≢false, and_left, le-ltb, cond-true}
 use Rattle.fares.specs.Readings.{AtMost}
 use Rattle.rule_table.specs.CoverTests.{is_free, covers_ticket}
@@ -17,7 +17,7 @@ use Rattle.rule_table.specs.declared.refusal.Refusal.TheVariants.{Rest, BadRule}
 use Rattle.rule_table.specs.declared.rule.Rule.{Rule}
 use Rattle.rule_table.specs.Bounded.{some_weaker}
 use Rattle.rule_table.specs.MaskBits.{has_mask}
-use Rattle.rule_table.specs.NextTickets.{met_tells, next_met, next_cases, next_idle, next_reached}
+use Rattle.rule_table.specs.NextTickets.{met_tells, next_met, next_cases, next_reached}
 use Rattle.rule_table.specs.Reaching.{reaches_trans, reaches_within}
 use Rattle.rule_table.specs.Deciding.{decides_free, decides_covers, free_onward, taken_out}
 
@@ -142,11 +142,8 @@ module _ (prices : List ℕ) (rules : List Rule) (sound : Sound prices rules) wh
   table_laws starts = record {
     transitive = λ j k l s t. (covers? j l).1 (covers_trans j k l ((covers? j k).0 s) ((covers? k l).0 t));
     no_dearer = λ k l s. covers_price k l ((covers? k l).0 s);
-    monotone = λ k l g h e s le. ⊎_elim {C = covers_ticket (length prices) rules (ticket_after rules k g e) (ticket_after rules l h e) ≡ true}
-        (λ he. (covers? (ticket_after rules k g e) (ticket_after rules l h e)).1 (covers_next k l g h e he le ((covers? k l).0 s)))
-        (λ he. ap₂ (covers_ticket (length prices) rules) (next_idle rules k g e k he) (next_idle rules l h e l he) ∙ s)
-        (cases_lt e 16);
-    never_falls = λ k g e. reaches_price (next_reached rules k g e);
+    monotone = λ k l g h e there s le. (covers? (ticket_after rules k g e) (ticket_after rules l h e)).1 (covers_next k l g h e (omega arith) le ((covers? k l).0 s));
+    never_falls = λ k g e there. reaches_price (next_reached rules k g e);
   }
 
   -- the next ticket is what it is said to be

@@ -1,7 +1,6 @@
 -- For each ticket a threshold at each gauge: no rule of it is met before some gauge has reached its own.
 -- Assumes nothing.
-use Rattle.std.specs.Prelude.{◌≡◌, ℕ, ◌<◌, min, fold, Bool, not, cond, ◌&&◌, ◌||◌, List, length, ◌==◌, get_or, nat_le, nat_lt}
-use Rattle.std.specs.List.{list_all}
+use Rattle.std.specs.Prelude.{◌≡◌, ℕ, ◌<◌, min, fold, Bool, not, cond, ◌&&◌, List, length, ◌==◌, get_or, nat_lt}
 use Rattle.fares.specs.declared.gauges.Gauges.{Gauges}
 use Rattle.fares.specs.Limits.{top_reading}
 use Rattle.fares.specs.Readings.{largest_readings}

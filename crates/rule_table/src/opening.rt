@@ -1,7 +1,7 @@
-ghost use Rattle.std.specs.Prelude.{◌≡◌};
+ghost use Rattle.std.specs.Prelude.{◌≡◌, IfErr, Some};
 ghost use Rattle.rule_table.specs.OpenedTables.{parts_of};
 ghost use Rattle.rule_table.specs.Refusals.{meant};
-ghost use Rattle.rule_table.specs.RuleTables.{table_opened};
+ghost use Rattle.rule_table.specs.RuleTables.{table_opened, table_refusal};
 
 use crate::cover::cover_masks;
 use crate::limits::{check_rest, check_rules};
@@ -15,7 +15,8 @@ use short_list::ShortList;
 
 impl RuleTable {
     pub fn open(prices: &[u32], rules: &[Rule], starts: [u8; 4]) -> Result<RuleTable, Refusal>
-        ensures { meant parts_of result ≡ table_opened prices.now rules.now starts }
+        ensures opened { meant parts_of result ≡ table_opened prices.now rules.now starts }
+        ensures refusal { IfErr result (λ e. table_refusal prices.now rules.now starts ≡ Some e) }
     {
         check_rest(prices, rules, &starts)?;
         check_rules(prices, rules)?;
