@@ -5,3 +5,4 @@ pub mod RuleFacts
 pub mod Line
 pub mod LineFacts
 pub mod LineHops
+pub mod MakerTimetables
