@@ -2,4 +2,5 @@ pub mod Members
 pub mod Marks
 pub mod LayerAnswers
 pub mod Outcomes
+pub mod Standing
 pub mod WholeDays

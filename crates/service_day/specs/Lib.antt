@@ -3,6 +3,7 @@ pub mod Marks
 pub mod Refusals
 pub mod Changes
 pub mod Days
+pub mod Causes
 pub mod DelayTables
 pub mod DayStates
 pub mod LayerRule

@@ -2,6 +2,7 @@ ghost use Rattle.std.specs.Prelude.{◌≡◌, ◌<◌, true, false, [], ◌∷�
 ghost use Rattle.short_list.specs.Items.{items};
 ghost use Rattle.timetable.specs.Table.{trips_of};
 ghost use Rattle.service_day.specs.Changes.{cancelled_by};
+ghost use Rattle.service_day.specs.Causes.{MayNotCancel, MayNotReinstate, RefusesFor};
 ghost use Rattle.service_day.specs.Days.{cancelling, reinstating};
 ghost use Rattle.service_day.specs.LayerRule.{cancelled_gentle};
 ghost use Rattle.service_day.specs.Layers.{cancelled_in, off_in};
@@ -92,6 +93,7 @@ impl<T: Timetable> Layer<T, CancelledTrips> {
     // Cancels a trip, if it is not cancelled already.
     pub fn cancel(&mut self, trip: u32) -> Result<(), Refusal>
         ensures answer { result ≡ told (cancelling (trips_of (T.Timetable.hops self.old.below)) trip (cancelled_in self.old)) }
+        ensures causes { RefusesFor (MayNotCancel (trips_of (T.Timetable.hops self.old.below)) trip (cancelled_in self.old)) result }
         ensures set { cancelled_in self.new ≡ left (cancelled_in self.old) (cancelling (trips_of (T.Timetable.hops self.old.below)) trip (cancelled_in self.old)) }
         ensures under { self.new.below ≡ self.old.below }
     {
@@ -107,6 +109,7 @@ impl<T: Timetable> Layer<T, CancelledTrips> {
     // Reinstates a cancelled trip.
     pub fn reinstate(&mut self, trip: u32) -> Result<(), Refusal>
         ensures answer { result ≡ told (reinstating (trips_of (T.Timetable.hops self.old.below)) trip (cancelled_in self.old)) }
+        ensures causes { RefusesFor (MayNotReinstate (trips_of (T.Timetable.hops self.old.below)) trip (cancelled_in self.old)) result }
         ensures set { cancelled_in self.new ≡ left (cancelled_in self.old) (reinstating (trips_of (T.Timetable.hops self.old.below)) trip (cancelled_in self.old)) }
         ensures under { self.new.below ≡ self.old.below }
     {

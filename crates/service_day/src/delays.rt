@@ -2,6 +2,7 @@ ghost use Rattle.std.specs.Prelude.{◌≡◌, ◌<◌, ◌≤◌, ◌==◌, ◌
 ghost use Rattle.short_list.specs.Items.{items};
 ghost use Rattle.timetable.specs.Table.{trips_of};
 ghost use Rattle.service_day.specs.Changes.{delayed_by};
+ghost use Rattle.service_day.specs.Causes.{MayNotDelay, RefusesFor};
 ghost use Rattle.service_day.specs.Days.{longest_delay, delaying};
 ghost use Rattle.service_day.specs.declared.delay.Delay.{Delay as DelayOf};
 ghost use Rattle.service_day.specs.DelayTables.{trip_of};
@@ -122,6 +123,7 @@ impl<T: Timetable> Layer<T, DelayedTrips> {
     // Sets a trip's delay; 0 takes it away.
     pub fn delay(&mut self, trip: u32, seconds: u32) -> Result<(), Refusal>
         ensures answer { result ≡ told (delaying (trips_of (T.Timetable.hops self.old.below)) trip seconds (delay_in self.old)) }
+        ensures causes { RefusesFor (MayNotDelay (trips_of (T.Timetable.hops self.old.below)) trip seconds (delay_in self.old)) result }
         ensures delay { delay_in self.new ≡ left (delay_in self.old) (delaying (trips_of (T.Timetable.hops self.old.below)) trip seconds (delay_in self.old)) }
         ensures under { self.new.below ≡ self.old.below }
     {

@@ -1,5 +1,6 @@
 ghost use Rattle.std.specs.Prelude.{◌≡◌};
 ghost use Rattle.timetable.specs.Table.{trips_of};
+ghost use Rattle.service_day.specs.Causes.{MayNotCancel, MayNotReinstate, MayNotDelay, RefusesFor};
 ghost use Rattle.service_day.specs.Days.{cancelling, reinstating, delaying};
 ghost use Rattle.service_day.specs.DayStates.{first_day, after_cancel, after_reinstate, after_delay, meant_on};
 ghost use Rattle.service_day.specs.LayerRule.{both_keep};
@@ -26,6 +27,7 @@ impl<T: Timetable> Day<T> {
     // Cancels a trip.
     pub fn cancel(&mut self, trip: u32) -> Result<(), Refusal>
         ensures answer { result ≡ told (cancelling (trips_of (T.Timetable.hops (base self.old))) trip (day_of self.old).cancelled) }
+        ensures causes { RefusesFor (MayNotCancel (trips_of (T.Timetable.hops (base self.old))) trip (day_of self.old).cancelled) result }
         ensures day { day_of self.new ≡ after_cancel (trips_of (T.Timetable.hops (base self.old))) trip (day_of self.old) }
         ensures under { base self.new ≡ base self.old }
     {
@@ -35,6 +37,7 @@ impl<T: Timetable> Day<T> {
     // Reinstates a cancelled trip.
     pub fn reinstate(&mut self, trip: u32) -> Result<(), Refusal>
         ensures answer { result ≡ told (reinstating (trips_of (T.Timetable.hops (base self.old))) trip (day_of self.old).cancelled) }
+        ensures causes { RefusesFor (MayNotReinstate (trips_of (T.Timetable.hops (base self.old))) trip (day_of self.old).cancelled) result }
         ensures day { day_of self.new ≡ after_reinstate (trips_of (T.Timetable.hops (base self.old))) trip (day_of self.old) }
         ensures under { base self.new ≡ base self.old }
     {
@@ -44,6 +47,7 @@ impl<T: Timetable> Day<T> {
     // Sets a trip's delay; 0 takes it away.
     pub fn delay(&mut self, trip: u32, seconds: u32) -> Result<(), Refusal>
         ensures answer { result ≡ told (delaying (trips_of (T.Timetable.hops (base self.old))) trip seconds (day_of self.old).delay) }
+        ensures causes { RefusesFor (MayNotDelay (trips_of (T.Timetable.hops (base self.old))) trip seconds (day_of self.old).delay) result }
         ensures day { day_of self.new ≡ after_delay (trips_of (T.Timetable.hops (base self.old))) trip seconds (day_of self.old) }
         ensures under { base self.new ≡ base self.old }
     {

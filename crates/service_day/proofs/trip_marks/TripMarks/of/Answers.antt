@@ -1,4 +1,4 @@
-use Rattle.std.proofs.Common.{true, false, ◌==◌, sym, ap, ◌∙◌}
+use Rattle.std.proofs.Common.{true, false, ◌==◌, ap, ◌∙◌}
 use Rattle.std.specs.List.{list_any}
 use Rattle.std.proofs.lemmas.List.{length-replicate, length-set, take_all}
 use Rattle.service_day.specs.Marks.{mark_of}
