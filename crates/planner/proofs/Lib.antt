@@ -8,4 +8,7 @@ mod Faulty
 mod Answering
 pub mod Promises
 pub mod Accepting
+mod Causes
+mod Ending
+pub mod Asked
 mod SameSheets

@@ -1,5 +1,5 @@
 -- The sheet and the legs of an answered question show every connection worth choosing, and nothing else.
-use Rattle.std.proofs.Common.{◌≡◌, ℕ, suc, ◌<◌, ◌≤◌, true, ltb, List, [], ◌∷◌, ◌++◌, map, length, take, Ok, sym, refl, ap, ◌∙◌, subst, inl, inr, arith, lit<, length-append}
+use Rattle.std.proofs.Common.{◌≡◌, ℕ, suc, ◌<◌, ◌≤◌, true, ltb, List, [], ◌∷◌, ◌++◌, map, length, take, Ok, sym, refl, ap, ◌∙◌, subst, ap₂, inl, inr, arith, lit<, length-append}
 use lib.ListN.{length-map}
 use Rattle.std.proofs.lemmas.Bool.{cond-true, cond-false, cases_lt, lt-ltb, le-ltb}
 use Rattle.timetable.specs.declared.hops.Hop.{Hop}
@@ -14,13 +14,15 @@ use Rattle.journeys.specs.Answers.{Answers, Handed}
 use Rattle.journeys.specs.Endless.{scan∞}
 use Rattle.journeys.specs.Fare.{FareModel, FareLaws}
 use Rattle.journeys.specs.Journey.{Setup, last}
-use Rattle.journeys.specs.Offers.{offer_of, AtMost, Best}
+use Rattle.journeys.specs.Offers.{Offer, offer_of, AtMost, Best}
 use Rattle.journeys.specs.Runs.{Run, on, ended}
 use Rattle.journeys.specs.Scan.{Stage, scan_for}
 use Rattle.journeys.specs.Selection.{best_offers, price_bound, offered}
 use Rattle.journeys.specs.Traces.{legs_of, spelled}
 use Rattle.journeys.proofs.Best.{answers}
-use Rattle.journeys.proofs.Lists.{each_map, some_map}
+use Rattle.journeys.proofs.Lists.{each_map, some_map, some_out, some_each}
+use Rattle.journeys.specs.Lists.{Somewhere}
+use Rattle.sheet.specs.declared.rows.Row.{Row}
 use Rattle.scan.proofs.Loops.{take_overlay}
 use Rattle.sheet.specs.Format.{encode}
 use Rattle.sheet.specs.Rows.{most_rows, Good}
@@ -28,8 +30,10 @@ use Rattle.planner.specs.declared.answer.Answer.{Answer}
 use Rattle.planner.specs.Handout.{row_of, legs_from}
 use Rattle.planner.specs.Outcome.{Memory, scanned, answered, counted, printed, refused, used}
 use Rattle.planner.specs.declared.refusal.Refusal.TheVariants.{ManyOffers}
-use Rattle.planner.specs.Promise.{setup_of, Connection, offers, spelled_out, HandedOut, Shows, Promised}
-use Rattle.planner.proofs.Settled.{Limits, timely, store_is, good_rows}
+use Rattle.planner.specs.Comparing.{In, offer_of_row}
+use Rattle.planner.specs.Promise.{setup_of, Connection, offers, spelled_out, HandedOut, Shows, Promised, BestOffersAre}
+use Rattle.planner.proofs.SameSheets.{same_rows}
+use Rattle.planner.proofs.Settled.{Limits, timely, store_is, good_rows, rows_order}
 
 module _ {S : Type 0} (ls : List (Label S)) where
   -- an offer, with the legs to its label
@@ -43,6 +47,18 @@ module _ {S : Type 0} (ls : List (Label S)) where
   connected_legs : (os : List BestOffer) (n : ℕ) → spelled_out n (map connection os) ≡ legs_from ls n os
   connected_legs [] n = refl
   connected_legs (o ∷ os) n = ap (λ l. map (spelled n) (legs_of ls o.label) ++ l) (connected_legs os (suc n))
+
+some_row : (os : List BestOffer) (r : Row) → In r (map row_of os) → Somewhere (λ o. row_of o ≡ r) os
+some_row [] r i = absurd i
+some_row (o ∷ os) r (inl e) = inl e
+some_row (o ∷ os) r (inr i) = inr (some_row os r i)
+
+row_is : (a b : Row) → offer_of_row a ≡ offer_of_row b → a ≡ b
+row_is a b e = ap₂ {C = Row} (λ t p. record { arrival = t; price = p }) (ap (λ (o : Offer). o.arrival) e) (ap (λ (o : Offer). o.price) e)
+
+-- there is one number of best offers
+pub one_count : {S : Type 0} (w : Setup S) (dest limit n m : ℕ) → BestOffersAre w dest limit n → BestOffersAre w dest limit m → n ≡ m
+one_count w dest limit n m a b = sym a.count ∙ ap length (same_rows a.rows b.rows a.order b.order (λ r i. b.whole r (a.sound r i)) (λ r i. a.whole r (b.sound r i))) ∙ b.count
 
 -- the rows of a store that answer a question are what its sheet shows
 shown : {S : Type 0} (w : Setup S) (dest limit : ℕ) (ls : List (Label S)) (os : List BestOffer) → Answers w dest limit os (λ r. legs_of ls r.label) → Good (map row_of os)
@@ -70,6 +86,20 @@ module _ {S : Type 0} (f : FareModel S) (laws : FareLaws f) (low : (s : S) → f
   best_answer : Answers w q.destination q.rides (best_offers f q.destination (scan∞ w q.rides)) (λ r. legs_of (scan∞ w q.rides) r.label)
   unfolding best_offers
   best_answer = answers w (timely f q stops paths hops bytes legs rule lim) laws q.destination q.rides price_bound (lit< tt) low
+
+  -- so many best offers there are as the selection finds
+  pub best_counted : BestOffersAre w q.destination q.rides (length (best_offers f q.destination (scan∞ w q.rides)))
+  best_counted =
+      let os = best_offers f q.destination (scan∞ w q.rides) in
+      record {
+        rows = map row_of os;
+        count = length-map os row_of;
+        order = rows_order f q stops paths hops bytes legs rule lim os best_answer.ordered;
+        sound = λ r i.
+            let x = some_out (λ o. Best w q.destination q.rides (offered o) × (row_of o ≡ r)) os (some_each (λ o. Best w q.destination q.rides (offered o)) (λ o. row_of o ≡ r) os best_answer.best (some_row os r i)) in
+            subst (λ (z : Row). Best w q.destination q.rides (offer_of_row z)) x.1.1 x.1.0;
+        whole = λ r b. some_map (λ o. offered o ≡ offer_of_row r) (λ x. x ≡ r) row_of (λ o e. row_is (row_of o) r e) os (best_answer.all (offer_of_row r) b);
+      }
 
   -- a scan that has come to its end
   at_the_end : (m : Memory S) (s : Stage S) → s.store ≡ scan∞ w q.rides → Promised w q.destination q.rides (answered f q.destination m s).answer (answered f q.destination m s).left.sheet (answered f q.destination m s).left.legs

@@ -18,7 +18,7 @@ ordered_tail r [] o = tt
 ordered_tail r (s ∷ rows) o = o.1
 
 -- two lists of rows in order that have the same rows are the same
-same_rows : (xs ys : List Row) → Ordered xs → Ordered ys → ((r : Row) → In r xs → In r ys) → ((r : Row) → In r ys → In r xs) → xs ≡ ys
+pub same_rows : (xs ys : List Row) → Ordered xs → Ordered ys → ((r : Row) → In r xs → In r ys) → ((r : Row) → In r ys → In r xs) → xs ≡ ys
 same_rows [] [] o p f g = refl
 same_rows [] (y ∷ ys) o p f g = absurd (g y (inl refl))
 same_rows (x ∷ xs) [] o p f g = absurd (f x (inl refl))

@@ -5,9 +5,9 @@ use Rattle.std.specs.List.{AllByRecursion}
 use Rattle.std.proofs.lemmas.Option.{slice_get-get_or}
 use Rattle.std.proofs.lemmas.Bool.{cases_lt, true≢false}
 use Rattle.timetable.specs.declared.hops.Hop.{Hop}
-use Rattle.timetable.specs.Rule.{keeps}
+use Rattle.timetable.specs.Rule.{keeps, Limits as HopLimits}
+use Rattle.timetable.specs.RuleFacts.{rule_kept}
 use Rattle.timetable.specs.Table.{count_of}
-use Rattle.timetable.proofs.Arrivals.{arrives_by}
 use Rattle.journeys.specs.declared.best_offer.BestOffer.{BestOffer}
 use Rattle.journeys.specs.declared.label.Label.{Label}
 use Rattle.journeys.specs.declared.label.Passenger.{Passenger}
@@ -49,12 +49,12 @@ pub record Limits (q : Asked) (stops : List Stop) (paths : List Footpath) (hops 
 
 pub limits : (q : Asked) (stops : List Stop) (paths : List Footpath) (hops : List Hop) (bytes legs : ℕ) → fault_of q stops paths hops bytes legs ≡ None → Limits q stops paths hops bytes legs
 limits q stops paths hops bytes legs e =
-    let a = askable q stops paths hops bytes legs e in
+    let a = askable q stops paths hops (record { labels = 0; aboard = 0; sheet = bytes; legs = legs }) e in
     record {
-      departs = a.departure;
-      rides = a.few_rides;
-      count = (let z = a.few_hops in omega arith);
-      short = each_imp (PathOk (length stops)) (λ x. x.seconds ≤ 3600) (λ x p. p.short) paths a.paths_ok;
+      departs = a.question.departure;
+      rides = a.question.few_rides;
+      count = (let z = a.question.few_hops in omega arith);
+      short = each_imp (PathOk (length stops)) (λ x. x.seconds ≤ 3600) (λ x p. p.short) paths a.network.paths_fit.all;
       bytes_room = a.sheet_room;
       legs_room = a.legs_room;
     }
@@ -63,9 +63,9 @@ module _ {S : Type 0} (f : FareModel S) (q : Asked) (stops : List Stop) (paths :
   abbrev w : Setup S
   w = setup_of f hops paths q
 
-  arrives : (i : ℕ) → (hop_in w i).runs ≡ true → (hop_in w i).arrival ≤ 172800
-  arrives i r = elim (cases_lt i (length hops)) [
-    | inl h ↦ arrives_by hops rule i (get_or hops i no_hop) (slice_get-get_or hops i no_hop h) r
+  limits_kept : (i : ℕ) → (hop_in w i).runs ≡ true → HopLimits (hop_in w i)
+  limits_kept i r = elim (cases_lt i (length hops)) [
+    | inl h ↦ (rule_kept hops rule).limits i (get_or hops i no_hop) (slice_get-get_or hops i no_hop h) r
     | inr h ↦ absurd (true≢false (sym r ∙ ap (λ (x : Hop). x.runs) (get_or-eq_default hops no_hop {n = i} h)))
   ]
 
@@ -73,7 +73,7 @@ module _ {S : Type 0} (f : FareModel S) (q : Asked) (stops : List Stop) (paths :
   timely = record {
     departs = lim.departs;
     short = λ i h. each_get (λ p. p.seconds ≤ 3600) paths lim.short i no_path h;
-    on_time = arrives;
+    kept = limits_kept;
   }
 
   -- where no list was full, the store is the endless scan's
@@ -129,7 +129,7 @@ module _ {S : Type 0} (f : FareModel S) (q : Asked) (stops : List Stop) (paths :
       let e : (last w (legs_of st o.label)).time ≡ o.arrival = ap (λ z. z.arrival) a.0.1 in
       ((omega (arith, t, e), omega (arith, b.0)), within_range os a.1 b.1)
 
-  rows_order : (os : List BestOffer) → Ordered os → RowsOrdered (map row_of os)
+  pub rows_order : (os : List BestOffer) → Ordered os → RowsOrdered (map row_of os)
   rows_order [] o = tt
   rows_order (r ∷ []) o = tt
   rows_order (r ∷ (s ∷ os)) o = ((o.0, o.1), rows_order (s ∷ os) o.2)

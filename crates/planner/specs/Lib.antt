@@ -6,6 +6,8 @@ pub mod Handout
 pub mod Outcome
 pub mod Promise
 pub mod Acceptance
+pub mod Causes
+pub mod Asking
 pub mod Comparing
 pub mod ShownOffers
 pub mod Lent

@@ -36,6 +36,16 @@ pub record Memory (S : Type 0) : Type 0 where
   pub sheet : List ℕ
   pub legs : List Leg
 
+-- how many things each of the four lists has room for
+pub record Space : Type 0 where
+  pub labels : ℕ
+  pub aboard : ℕ
+  pub sheet : ℕ
+  pub legs : ℕ
+
+abbrev pub space_in : {S : Type 0} → Memory S → Space
+space_in m = record { labels = length m.labels; aboard = length m.aboard; sheet = length m.sheet; legs = length m.legs }
+
 -- an answer, and the lists as they are left
 pub record Outcome (S : Type 0) : Type 0 where
   pub answer : Result Answer Refusal

@@ -12,7 +12,8 @@ use Rattle.journeys.specs.Offers.{Offer, offer_of, AtMost, Such, Best}
 use Rattle.journeys.specs.Traces.{spelled}
 use Rattle.sheet.specs.declared.rows.Row.{Row}
 use Rattle.sheet.specs.Format.{encode}
-use Rattle.sheet.specs.Rows.{Good}
+use Rattle.sheet.specs.Rows.{Good, Ordered}
+use Rattle.planner.specs.Comparing.{In, offer_of_row}
 use Rattle.planner.specs.declared.answer.Answer.{Answer}
 use Rattle.planner.specs.declared.refusal.Refusal.{Refusal}
 
@@ -58,7 +59,15 @@ pub record Shows {S : Type 0} (w : Setup S) (dest limit : ℕ) (answer : Answer)
   -- each such journey is met by a row that arrives no later and costs no more
   pub met : (ls : List Leg) → Such w dest limit ls → Somewhere (λ c. AtMost (offers c) (offer_of w (last w ls))) connections
 
--- what is promised of an answered question
+-- there are n best offers: rows by rising arrival and falling price, which are these offers and no others
+pub record BestOffersAre {S : Type 0} (w : Setup S) (dest limit n : ℕ) : Type 0 where
+  pub rows : List Row
+  pub count : length rows ≡ n
+  pub order : Ordered rows
+  pub sound : (r : Row) → In r rows → Best w dest limit (offer_of_row r)
+  pub whole : (r : Row) → Best w dest limit (offer_of_row r) → In r rows
+
+-- what an answered question promises of its sheet and legs
 abbrev pub Promised : {S : Type 0} → Setup S → ℕ → ℕ → Result Answer Refusal → List ℕ → List SheetLeg → Type 0
 Promised w dest limit (Ok answer) bytes walked = Shows w dest limit answer bytes walked
 Promised w dest limit (Err refusal) bytes walked = Unit {0}

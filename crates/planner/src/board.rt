@@ -1,10 +1,7 @@
-ghost use Rattle.std.specs.Prelude.{◌≡◌, is_ok, Decides};
 ghost use Rattle.journeys.specs.NetworkFare.{fare_over};
-ghost use Rattle.planner.specs.Acceptance.{Acceptable};
+ghost use Rattle.planner.specs.Asking.{Promise};
 ghost use Rattle.planner.specs.Lent.{memory_of, Ends, SameLists};
 ghost use Rattle.planner.specs.Outcome.{asked_of};
-ghost use Rattle.planner.specs.Promise.{setup_of, Promised};
-ghost use Rattle.planner.specs.Refusals.{numbered};
 
 use crate::answer::Answer;
 use crate::asking::{answer, check};
@@ -31,9 +28,7 @@ pub fn ask<T: Timetable, F: LawfulTariff, M: LawfulMeasure>(
     lent: &mut Lent<FareState<F::Ticket, M::Weight>>,
 ) -> Result<Answer, Refusal>
     ensures outcome { Ends (asked_of (F.Tariff.model board.now.tariff.now) (M.Measure.model board.now.measure.now) (T.Timetable.hops board.now.timetable.now) network.now.stops.now network.now.paths.now question.now (memory_of lent.old)) result (memory_of lent.new) }
-    ensures numbers { numbered result ≡ numbered (asked_of (F.Tariff.model board.now.tariff.now) (M.Measure.model board.now.measure.now) (T.Timetable.hops board.now.timetable.now) network.now.stops.now network.now.paths.now question.now (memory_of lent.old)).answer }
-    ensures accepted { Decides (is_ok result) (Acceptable (fare_over (F.Tariff.model board.now.tariff.now) (M.Measure.model board.now.measure.now) network.now.stops.now) (T.Timetable.hops board.now.timetable.now) network.now.stops.now network.now.paths.now question.now (memory_of lent.old)) }
-    ensures promise { Promised (setup_of (fare_over (F.Tariff.model board.now.tariff.now) (M.Measure.model board.now.measure.now) network.now.stops.now) (T.Timetable.hops board.now.timetable.now) network.now.paths.now question.now) question.now.destination question.now.rides result lent.new.out.sheet.now lent.new.out.legs.now }
+    ensures promise { Promise (fare_over (F.Tariff.model board.now.tariff.now) (M.Measure.model board.now.measure.now) network.now.stops.now) (T.Timetable.hops board.now.timetable.now) network.now.stops.now network.now.paths.now question.now (memory_of lent.old) result (memory_of lent.new) }
     ensures same_lists { SameLists lent.old lent.new }
 {
     check(board.timetable, network, question, &lent.out)?;

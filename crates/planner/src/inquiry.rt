@@ -1,10 +1,11 @@
 ghost use Rattle.std.specs.Prelude.{Result};
 ghost use Rattle.journeys.specs.NetworkFare.{fare_over};
 ghost use Rattle.journeys.specs.Offers.{Offer, Best};
+ghost use Rattle.planner.specs.Asking.{Promise};
 ghost use Rattle.planner.specs.Comparing.{ShowsBest};
 ghost use Rattle.planner.specs.Lent.{memory_of, Ends, SameLists};
 ghost use Rattle.planner.specs.Outcome.{Memory, Outcome, asked_of};
-ghost use Rattle.planner.specs.Promise.{setup_of, Promised};
+ghost use Rattle.planner.specs.Promise.{setup_of};
 ghost use Rattle.planner.specs.ShownOffers.{promised_shows};
 ghost use Rattle.planner.specs.declared.answer.Answer.{Answer};
 ghost use Rattle.planner.specs.declared.refusal.Refusal.{Refusal as AskRefusal};
@@ -51,11 +52,11 @@ impl<'a, 'b, T: Timetable, F: LawfulTariff, M: LawfulMeasure> Inquire for Inquir
 
     ghost outcome = { λ i m. asked_of (F.Tariff.model i.board.tariff.now) (M.Measure.model i.board.measure.now) (T.Timetable.hops i.board.timetable.now) i.network.stops.now i.network.paths.now i.question m };
 
-    ghost promised = { λ i m r n. Promised (setup_of (fare_over (F.Tariff.model i.board.tariff.now) (M.Measure.model i.board.measure.now) i.network.stops.now) (T.Timetable.hops i.board.timetable.now) i.network.paths.now i.question) i.question.destination i.question.rides r n.sheet n.legs };
+    ghost promised = { λ i m r n. Promise (fare_over (F.Tariff.model i.board.tariff.now) (M.Measure.model i.board.measure.now) i.network.stops.now) (T.Timetable.hops i.board.timetable.now) i.network.stops.now i.network.paths.now i.question m r n };
 
     ghost best = { λ i. Best (setup_of (fare_over (F.Tariff.model i.board.tariff.now) (M.Measure.model i.board.measure.now) i.network.stops.now) (T.Timetable.hops i.board.timetable.now) i.network.paths.now i.question) i.question.destination i.question.rides };
 
-    ghost shows = { λ i m n r p. promised_shows (setup_of (fare_over (F.Tariff.model i.board.tariff.now) (M.Measure.model i.board.measure.now) i.network.stops.now) (T.Timetable.hops i.board.timetable.now) i.network.paths.now i.question) i.question.destination i.question.rides r n.sheet n.legs p };
+    ghost shows = { λ i m n r p. promised_shows (setup_of (fare_over (F.Tariff.model i.board.tariff.now) (M.Measure.model i.board.measure.now) i.network.stops.now) (T.Timetable.hops i.board.timetable.now) i.network.paths.now i.question) i.question.destination i.question.rides r n.sheet n.legs p.shown };
 
     fn put(self, lent: &mut Lent<FareState<F::Ticket, M::Weight>>) -> Result<Answer, Refusal> {
         ask(&self.board, &self.network, &self.question, lent)

@@ -8,8 +8,10 @@
 // `compare` puts two questions to two boards, each an `Inquiry`, and answers whether they print the
 // same sheet, or which of the two has `Refused`.
 // `specs/Outcome` says what is answered and what each list holds then, for every input;
-// `specs/Promise` says in terms of journeys what the sheet and the legs of an answer show,
-// `specs/Acceptance` when a question is accepted, `specs/Comparing` when two sheets are the same.
+// `specs/Asking` has all that is promised of a question: when it is accepted (`specs/Acceptance`), for
+// which cause it is refused (`specs/Causes`), what the sheet and the legs of an answer show in terms of
+// journeys (`specs/Promise`), and where the labels that it leaves stand. `specs/Comparing` says when two
+// sheets are the same.
 mod answer;
 mod asking;
 mod board;

@@ -1,4 +1,4 @@
-use Rattle.std.proofs.Common.{◌≡◌, ◌<◌, length, is_ok, Some, None, Err, Decides, sym, refl, ap, ◌∙◌, subst, arith}
+use Rattle.std.proofs.Common.{◌≡◌, ◌<◌, length, Some, None, Err, sym, refl, ap, subst, arith}
 use Rattle.fares.specs.declared.fare_state.FareState.{FareState}
 use Rattle.journeys.specs.NetworkFare.{fare_over}
 use Rattle.journeys.specs.Scan.{scan_for}
@@ -6,14 +6,9 @@ use Rattle.journeys.specs.Selection.{price_bound}
 use Rattle.journeys.proofs.LawfulFare.{fare_laws}
 use Rattle.planner.specs.Lent.{memory_of}
 use Rattle.planner.specs.Limits.{fault_of}
-use Rattle.planner.specs.Acceptance.{Acceptable}
 use Rattle.planner.specs.Outcome.{Memory, Leaves, scanned, refused, unless, asked}
-use Rattle.planner.specs.Refusals.{numbered}
+use Rattle.planner.proofs.Asked.{ends_kept}
 use Rattle.planner.proofs.Faulty.{err_is}
-use Rattle.planner.proofs.Accepting.{accepted_where}
-use Rattle.planner.specs.Promise.{setup_of, Promised}
-use Rattle.planner.proofs.Promises.{promise_kept}
-use Rattle.planner.proofs.Settled.{limits}
 use Rattle.planner.proofs.board.ask.Goals as goal
 
 pub returns-in_err-check : goal.returns-in_err-check
@@ -28,14 +23,16 @@ returns-in_err-check g c =
     let m : Memory (FareState g.row.F-Ticket.Denot g.row.M-Weight.Denot) = memory_of c.args.lent.now in
     let is : fault_of q stops paths hops (length m.sheet) (length m.legs) ≡ Some c.in_err-check.field-0.0 = sym c.in_err-check.ensures in
     let o = scanned f q.destination m (scan_for f hops paths q m.labels m.aboard) in
+    let low : (s : FareState g.row.F-Ticket.Denot g.row.M-Weight.Denot) → f.price s < price_bound = λ s. omega (arith, g.met.F.Tariff.priced c.args.board.now.tariff.now s.ticket) in
+    let laws = fare_laws t measure stops (g.met.F.LawfulTariff.lawful c.args.board.now.tariff.now) (g.met.M.LawfulMeasure.lawful c.args.board.now.measure.now) in
     let e : refused c.in_err-check.field-0.0 m ≡ asked f hops stops paths q m = sym (ap (λ x. unless x m o) is) in
     let told = err_is c.from_residual.result c.in_err-check.field-0.0 c.from_residual.ensures.1 in
+    let out : Leaves (asked f hops stops paths q m) c.from_residual.result m.labels m.written m.aboard m.sheet m.legs =
+    subst (λ a. Leaves (asked f hops stops paths q m) a m.labels m.written m.aboard m.sheet m.legs) (sym told)
+    (subst (λ x. Leaves x (Err c.in_err-check.field-0.0) m.labels m.written m.aboard m.sheet m.legs) e (record { answer = refl; labels = refl; written = refl; aboard = refl; sheet = refl; legs = refl })) in
     record {
-      outcome = subst (λ a. Leaves (asked f hops stops paths q m) a m.labels m.written m.aboard m.sheet m.legs) (sym told)
-          (subst (λ x. Leaves x (Err c.in_err-check.field-0.0) m.labels m.written m.aboard m.sheet m.legs) e (record { answer = refl; labels = refl; written = refl; aboard = refl; sheet = refl; legs = refl }));
-      numbers = ap numbered told ∙ ap (λ x. numbered x.answer) e;
-      accepted = subst (λ r. Decides (is_ok r) (Acceptable f hops stops paths q m)) (sym (told ∙ ap (λ x. x.answer) e)) (accepted_where f hops stops paths q m);
-      promise = subst (λ r. Promised (setup_of f hops paths q) q.destination q.rides r m.sheet m.legs) (sym told) tt;
+      outcome = out;
+      promise = ends_kept f hops stops paths q m (g.T.Timetable.rule c.args.board.now.timetable.now) laws low c.from_residual.result m out;
       same_lists = record { labels = refl; aboard = refl; sheet = refl; legs = refl };
     }
 
@@ -49,21 +46,16 @@ returns g c =
     let q = c.args.question.now in
     let f = fare_over t measure stops in
     let m : Memory (FareState g.row.F-Ticket.Denot g.row.M-Weight.Denot) = memory_of c.args.lent.now in
+    let n : Memory (FareState g.row.F-Ticket.Denot g.row.M-Weight.Denot) = memory_of c.answer.new.lent in
     let none : fault_of q stops paths hops (length m.sheet) (length m.legs) ≡ None = sym c.in_ok-check.ensures in
     let o = scanned f q.destination m (scan_for f hops paths q m.labels m.aboard) in
     let e : o ≡ asked f hops stops paths q m = sym (ap (λ x. unless x m o) none) in
     let low : (s : FareState g.row.F-Ticket.Denot g.row.M-Weight.Denot) → f.price s < price_bound = λ s. omega (arith, g.met.F.Tariff.priced c.args.board.now.tariff.now s.ticket) in
     let laws = fare_laws t measure stops (g.met.F.LawfulTariff.lawful c.args.board.now.tariff.now) (g.met.M.LawfulMeasure.lawful c.args.board.now.measure.now) in
-    let lim = limits q stops paths hops (length m.sheet) (length m.legs) none in
-    let p = promise_kept f laws low q stops paths hops (length m.sheet) (length m.legs) (g.T.Timetable.rule c.args.board.now.timetable.now) lim m in
-    let w = setup_of f hops paths q in
+    let out : Leaves (asked f hops stops paths q m) c.answer.result n.labels n.written n.aboard n.sheet n.legs =
+    subst (λ x. Leaves x c.answer.result n.labels n.written n.aboard n.sheet n.legs) e c.answer.ensures.outcome in
     record {
-      outcome = subst (λ x. Leaves x c.answer.result c.answer.new.lent.store.labels.now c.answer.new.lent.store.used c.answer.new.lent.aboard.now c.answer.new.lent.out.sheet.now c.answer.new.lent.out.legs.now) e c.answer.ensures.outcome;
-      numbers = ap numbered (c.answer.ensures.outcome.answer ∙ ap (λ x. x.answer) e);
-      accepted = subst (λ r. Decides (is_ok r) (Acceptable f hops stops paths q m)) (sym (c.answer.ensures.outcome.answer ∙ ap (λ x. x.answer) e)) (accepted_where f hops stops paths q m);
-      promise =
-          subst (λ r. Promised w q.destination q.rides r c.answer.new.lent.out.sheet.now c.answer.new.lent.out.legs.now) (sym c.answer.ensures.outcome.answer)
-          (subst (λ b. Promised w q.destination q.rides o.answer b c.answer.new.lent.out.legs.now) (sym c.answer.ensures.outcome.sheet)
-          (subst (λ l. Promised w q.destination q.rides o.answer o.left.sheet l) (sym c.answer.ensures.outcome.legs) p));
+      outcome = out;
+      promise = ends_kept f hops stops paths q m (g.T.Timetable.rule c.args.board.now.timetable.now) laws low c.answer.result n out;
       same_lists = c.answer.ensures.same_lists;
     }
