@@ -1,72 +1,61 @@
 -- A question after a log on a new planner: from what the planner has told to the promise for the log.
-use Rattle.std.proofs.Common.{◌≡◌, ℕ, ◌≤◌, true, List, [], ◌∷◌, length, Result, sym, refl, ◌∙◌, subst}
+use Rattle.std.proofs.Common.{◌≡◌, true, List, [], ◌∷◌, is_ok, Decides, Result, refl, ◌∙◌, subst}
 use Rattle.timetable.specs.declared.hops.Hop.{Hop}
 use Rattle.timetable.specs.Rule.{keeps}
 use Rattle.timetable.specs.Table.{trips_of}
 use Rattle.fares.specs.declared.fare_state.FareState.{FareState}
 use Rattle.fares.specs.Measures.{MeasureModel}
 use Rattle.fares.specs.Tariffs.{TariffModel}
-use Rattle.journeys.specs.declared.network.Footpath.{Footpath}
 use Rattle.journeys.specs.declared.network.Network.{Network}
-use Rattle.journeys.specs.declared.network.Stop.{Stop}
 use Rattle.journeys.specs.declared.question.Question.{Question}
-use Rattle.journeys.specs.Endless.{scan∞, most_aboard∞}
-use Rattle.journeys.specs.Fare.{FareModel}
 use Rattle.service_day.specs.DayStates.{DayState, first_day, meant_on}
 use Rattle.service_day.specs.LayerRule.{both_keep}
 use Rattle.planner.specs.declared.answer.Answer.{Answer}
 use Rattle.planner.specs.declared.refusal.Refusal.{Refusal}
-use Rattle.planner.specs.Acceptance.{Askable, Acceptable}
+use Rattle.planner.specs.Acceptance.{Acceptable}
+use Rattle.planner.specs.Causes.{TellsCause}
 use Rattle.planner.specs.Lent.{Ends}
-use Rattle.planner.specs.Outcome.{Memory}
-use Rattle.planner.specs.Promise.{setup_of}
+use Rattle.planner.specs.Outcome.{Memory, Space, space_in}
 use Rattle.day_planner.specs.declared.entry.Entry.{Entry}
 use Rattle.day_planner.specs.declared.entry.Entry.TheVariants.{Cancel, Reinstate, Delay, Ask}
 use Rattle.day_planner.specs.Log.{Basis, after, day_after, hops_after, asked_on, memory_left, memory_after, asked_after}
 use Rattle.day_planner.specs.Planners.{Parts, basis}
 use Rattle.day_planner.specs.Promise.{Promise, fare_of}
-use Rattle.day_planner.proofs.Sizes.{SameSizes, asked_sizes}
+use Rattle.day_planner.specs.Rooms.{SameRoom}
+use Rattle.day_planner.proofs.Sizes.{asked_sizes}
 
 -- Sizes: the questions of a log leave each list as long as it was, so that a question after the log is accepted exactly
 -- where it would be with the lists as they were handed in.
 
-sizes_refl : {S : Type 0} (m : Memory S) → SameSizes m m
+sizes_refl : {S : Type 0} (m : Memory S) → SameRoom m m
 sizes_refl m = record { labels = refl; aboard = refl; sheet = refl; legs = refl }
 
-sizes_trans : {S : Type 0} (m n k : Memory S) → SameSizes m n → SameSizes n k → SameSizes m k
+sizes_trans : {S : Type 0} (m n k : Memory S) → SameRoom m n → SameRoom n k → SameRoom m k
 sizes_trans m n k a b = record { labels = b.labels ∙ a.labels; aboard = b.aboard ∙ a.aboard; sheet = b.sheet ∙ a.sheet; legs = b.legs ∙ a.legs }
 
 module _ {K W : Type 0} (b : Basis K W) (rule : keeps b.hops ≡ true) where
-  entry_sizes : (d : DayState) (m : Memory (FareState K W)) (e : Entry) → SameSizes m (memory_left b d m e)
+  entry_sizes : (d : DayState) (m : Memory (FareState K W)) (e : Entry) → SameRoom m (memory_left b d m e)
   entry_sizes d m (Cancel trip) = sizes_refl m
   entry_sizes d m (Reinstate trip) = sizes_refl m
   entry_sizes d m (Delay trip seconds) = sizes_refl m
   entry_sizes d m (Ask q) = asked_sizes (fare_of b) (meant_on d b.hops) b.stops b.paths q m (both_keep d.cancelled d.delay b.hops rule)
 
-  pub log_sizes : (d : DayState) (m : Memory (FareState K W)) (log : List Entry) → SameSizes m (memory_after b d m log)
+  pub log_sizes : (d : DayState) (m : Memory (FareState K W)) (log : List Entry) → SameRoom m (memory_after b d m log)
   log_sizes d m [] = sizes_refl m
   log_sizes d m (e ∷ log) =
       sizes_trans m (memory_left b d m e) (memory_after b (after (trips_of b.hops) d e) (memory_left b d m e) log)
       (entry_sizes d m e) (log_sizes (after (trips_of b.hops) d e) (memory_left b d m e) log)
 
--- whether a question is acceptable depends only on the sizes of its lists
-module _ {S : Type 0} (f : FareModel S) (hops : List Hop) (stops : List Stop) (paths : List Footpath) (q : Question) (m n : Memory S) (labels : length n.labels ≡ length m.labels) (aboard : length n.aboard ≡ length m.aboard) (sheet : length n.sheet ≡ length m.sheet) (legs : length n.legs ≡ length m.legs) where
-  acceptable_there : Acceptable f hops stops paths q m → Acceptable f hops stops paths q n
-  acceptable_there a = record {
-    askable = subst (λ (k : ℕ). Askable q stops paths hops k (length n.legs)) (sym sheet) (subst (λ (k : ℕ). Askable q stops paths hops (length m.sheet) k) (sym legs) a.askable);
-    labels_fit = subst (λ (k : ℕ). length (scan∞ (setup_of f hops paths q) q.rides) ≤ k) (sym labels) a.labels_fit;
-    aboard_fit = subst (λ (k : ℕ). most_aboard∞ (setup_of f hops paths q) q.rides ≤ k) (sym aboard) a.aboard_fit;
-    few_offers = a.few_offers;
-  }
-
-pub promise_there : {K W : Type 0} (b : Basis K W) (hops : List Hop) (q : Question) (m n : Memory (FareState K W)) (r : Result Answer Refusal) (k : Memory (FareState K W)) → SameSizes m n → Promise b hops q n r k → Promise b hops q m r k
-promise_there b hops q m n r k s p = record {
-  accepted = (
-    (λ z. acceptable_there (fare_of b) hops b.stops b.paths q n m (sym s.labels) (sym s.aboard) (sym s.sheet) (sym s.legs) (p.accepted.0 z)),
-    λ a. p.accepted.1 (acceptable_there (fare_of b) hops b.stops b.paths q m n s.labels s.aboard s.sheet s.legs a),
-  );
-  shown = p.shown;
-}
+-- of the memory before, a promise speaks by the sizes of its lists alone
+pub promise_there : {K W : Type 0} (b : Basis K W) (hops : List Hop) (q : Question) (m n : Memory (FareState K W)) (r : Result Answer Refusal) (k : Memory (FareState K W)) → SameRoom m n → Promise b hops q n r k → Promise b hops q m r k
+promise_there b hops q m n r k s p =
+    let same : space_in n ≡ space_in m = λ v. record { labels = s.labels v; aboard = s.aboard v; sheet = s.sheet v; legs = s.legs v } in
+    record {
+      accepted = subst (λ (x : Space). Decides (is_ok r) (Acceptable (fare_of b) hops b.stops b.paths q x)) same p.accepted;
+      cause = subst (λ (x : Space). TellsCause (fare_of b) hops b.stops b.paths q x r) same p.cause;
+      shown = p.shown;
+      labels = p.labels;
+    }
 
 -- A planner was made of the parts P and has run a log.
 module _ {T F M K W : Type 0} (hops : T → List Hop) (tariff : F → TariffModel K) (measure : M → MeasureModel W) (network : Network) (log : List Entry)

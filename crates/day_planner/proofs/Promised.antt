@@ -1,22 +1,16 @@
 -- The promise, for the defined outcome of a question after any log.
-use Rattle.std.proofs.Common.{◌≡◌, ◌<◌, true, List, length, Some, None, Option, refl}
+use Rattle.std.proofs.Common.{◌≡◌, ◌<◌, true, List}
 use Rattle.timetable.specs.declared.hops.Hop.{Hop}
 use Rattle.timetable.specs.Rule.{keeps}
 use Rattle.timetable.specs.Table.{trips_of}
 use Rattle.fares.specs.declared.fare_state.FareState.{FareState}
 use Rattle.journeys.specs.declared.question.Question.{Question}
 use Rattle.journeys.specs.Fare.{FareLaws}
-use Rattle.journeys.specs.Scan.{scan_for}
 use Rattle.journeys.specs.Selection.{price_bound}
 use Rattle.service_day.specs.DayStates.{first_day}
 use Rattle.service_day.specs.LayerRule.{both_keep}
-use Rattle.planner.specs.declared.refusal.Refusal.{Refusal}
-use Rattle.planner.specs.Limits.{fault_of}
-use Rattle.planner.specs.Outcome.{Memory, asked, scanned, unless}
-use Rattle.planner.specs.Promise.{setup_of, Promised}
-use Rattle.planner.proofs.Accepting.{accepted_where}
-use Rattle.planner.proofs.Promises.{promise_kept}
-use Rattle.planner.proofs.Settled.{limits}
+use Rattle.planner.specs.Outcome.{Memory, asked}
+use Rattle.planner.proofs.Asked.{asked_kept}
 use Rattle.day_planner.specs.declared.entry.Entry.{Entry}
 use Rattle.day_planner.specs.Log.{Basis, day_after, hops_after, memory_after, asked_after}
 use Rattle.day_planner.specs.Promise.{Promise, fare_of}
@@ -24,19 +18,8 @@ use Rattle.day_planner.proofs.AfterLog.{promise_there, log_sizes}
 
 module _ {K W : Type 0} (b : Basis K W) (rule : keeps b.hops ≡ true) (laws : FareLaws (fare_of b)) (low : (s : FareState K W) → (fare_of b).price s < price_bound) where
   -- over any hops that keep the rule
-  over_hops : (hops : List Hop) → keeps hops ≡ true → (q : Question) (m : Memory (FareState K W)) → Promise b hops q m (asked (fare_of b) hops b.stops b.paths q m).answer (asked (fare_of b) hops b.stops b.paths q m).left
-  over_hops hops kept q m = record {
-    accepted = accepted_where (fare_of b) hops b.stops b.paths q m;
-    shown = go (fault_of q b.stops b.paths hops (length m.sheet) (length m.legs)) refl;
-  }
-    where
-      go : (o : Option Refusal) → fault_of q b.stops b.paths hops (length m.sheet) (length m.legs) ≡ o →
-          Promised (setup_of (fare_of b) hops b.paths q) q.destination q.rides
-          (unless o m (scanned (fare_of b) q.destination m (scan_for (fare_of b) hops b.paths q m.labels m.aboard))).answer
-          (unless o m (scanned (fare_of b) q.destination m (scan_for (fare_of b) hops b.paths q m.labels m.aboard))).left.sheet
-          (unless o m (scanned (fare_of b) q.destination m (scan_for (fare_of b) hops b.paths q m.labels m.aboard))).left.legs
-      go (Some refusal) e = tt
-      go None e = promise_kept (fare_of b) laws low q b.stops b.paths hops (length m.sheet) (length m.legs) kept (limits q b.stops b.paths hops (length m.sheet) (length m.legs) e) m
+  pub over_hops : (hops : List Hop) → keeps hops ≡ true → (q : Question) (m : Memory (FareState K W)) → Promise b hops q m (asked (fare_of b) hops b.stops b.paths q m).answer (asked (fare_of b) hops b.stops b.paths q m).left
+  over_hops hops kept q m = asked_kept (fare_of b) hops b.stops b.paths q m kept laws low
 
   pub promised_after : (log : List Entry) (q : Question) (m : Memory (FareState K W)) → Promise b (hops_after b.hops log) q m (asked_after b log q m).answer (asked_after b log q m).left
   promised_after log q m =

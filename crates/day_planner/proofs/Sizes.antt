@@ -31,13 +31,7 @@ use Rattle.planner.specs.Limits.{fault_of}
 use Rattle.planner.specs.Outcome.{Memory, asked, scanned, answered, counted, refused, used, printed, unless}
 use Rattle.planner.specs.Promise.{setup_of}
 use Rattle.planner.proofs.Settled.{Limits, limits, store_is, legs_fit}
-
--- the four lists of one memory are as long as those of another
-pub record SameSizes {S : Type 0} (m n : Memory S) : Type 0 where
-  pub labels : length n.labels ≡ length m.labels
-  pub aboard : length n.aboard ≡ length m.aboard
-  pub sheet : length n.sheet ≡ length m.sheet
-  pub legs : length n.legs ≡ length m.legs
+use Rattle.day_planner.specs.Rooms.{SameRoom}
 
 overlay_length : {A : Type 0} (xs old : List A) → length xs ≤ length old → length (overlay xs old) ≡ length old
 overlay_length xs old h = simp (length-append, length-drop) (omega arith)
@@ -110,17 +104,17 @@ module _ {S : Type 0} (f : FareModel S) (hops : List Hop) (stops : List Stop) (p
   origin = label_at_origin f q.origin q.departure
 
   -- what a stage has used is as long as before, where the store fits and there are as many places as before
-  used_sizes : (written : ℕ) (s : Stage S) → StoreFew f room s → length s.places ≡ length m.aboard → SameSizes m (used written s m)
+  used_sizes : (written : ℕ) (s : Stage S) → StoreFew f room s → length s.places ≡ length m.aboard → SameRoom m (used written s m)
   used_sizes written s few e = record { labels = overlay_length (linked s.store) m.labels (omega (arith, few, length_linked 0 s.store)); aboard = e; sheet = refl; legs = refl }
 
   -- A scan that has come to its end has the endless scan's store. So where there are at most 32 best offers, their sheet
   -- takes at most the 225 bytes that a question without a fault has, and their legs fit too. Where there are more,
   -- nothing is printed.
   answered_sizes : keeps hops ≡ true → Limits q stops paths hops (length m.sheet) (length m.legs) → (s : Stage S) → s.store ≡ scan∞ (setup_of f hops paths q) q.rides
-      → SameSizes m (used (length s.store) s m) → SameSizes m (answered f q.destination m s).left
+      → SameRoom m (used (length s.store) s m) → SameRoom m (answered f q.destination m s).left
   answered_sizes rule lim s e same =
       let os = best_offers f q.destination s.store in
-      cond_both (ltb most_rows (length os)) (refused (ManyOffers (length os)) (used (length s.store) s m)) (record { answer = Ok (counted f q.destination s); left = printed f q.destination s m }) (λ o. SameSizes m o.left) (λ _. same)
+      cond_both (ltb most_rows (length os)) (refused (ManyOffers (length os)) (used (length s.store) s m)) (record { answer = Ok (counted f q.destination s); left = printed f q.destination s m }) (λ o. SameRoom m o.left) (λ _. same)
       (λ t. let few : length os ≤ 32 = ltb-false most_rows (length os) t in record {
         labels = same.labels;
         aboard = same.aboard;
@@ -130,15 +124,15 @@ module _ {S : Type 0} (f : FareModel S) (hops : List Hop) (stops : List Stop) (p
       })
 
   scanned_sizes : keeps hops ≡ true → Limits q stops paths hops (length m.sheet) (length m.legs) → (r : Run (Stage S)) → scan_for f hops paths q m.labels m.aboard ≡ r
-      → Throughout (StoreFew f room) (StoreFilled f room) r → length (result_of r).places ≡ length m.aboard → SameSizes m (scanned f q.destination m r).left
+      → Throughout (StoreFew f room) (StoreFilled f room) r → length (result_of r).places ≡ length m.aboard → SameRoom m (scanned f q.destination m r).left
   scanned_sizes rule lim (on s) e few places = answered_sizes rule lim s (store_is f q stops paths hops (length m.sheet) (length m.legs) rule lim m.labels m.aboard s e) (used_sizes (length s.store) s few places)
   scanned_sizes rule lim (ended full s) e few places = used_sizes 0 s few.0 places
 
   -- a fault leaves all lists as they were
-  pub asked_sizes : keeps hops ≡ true → SameSizes m (asked f hops stops paths q m).left
+  pub asked_sizes : keeps hops ≡ true → SameRoom m (asked f hops stops paths q m).left
   asked_sizes rule = go (fault_of q stops paths hops (length m.sheet) (length m.legs)) refl
     where
-      go : (o : Option Refusal) → fault_of q stops paths hops (length m.sheet) (length m.legs) ≡ o → SameSizes m (unless o m (scanned f q.destination m (scan_for f hops paths q m.labels m.aboard))).left
+      go : (o : Option Refusal) → fault_of q stops paths hops (length m.sheet) (length m.legs) ≡ o → SameRoom m (unless o m (scanned f q.destination m (scan_for f hops paths q m.labels m.aboard))).left
       go (Some refusal) e = record { labels = refl; aboard = refl; sheet = refl; legs = refl }
       go None e = scanned_sizes rule (limits q stops paths hops (length m.sheet) (length m.legs) e) (scan_for f hops paths q m.labels m.aboard) refl
           (scan_filled f room hops paths origin m.aboard q.rides) (scan_seated f room hops paths origin m.aboard q.rides refl).1

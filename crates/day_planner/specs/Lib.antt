@@ -3,4 +3,6 @@ pub mod Planners
 pub mod Promise
 pub mod Inquiries
 pub mod Comparing
+pub mod Rooms
 pub mod Refusals
+pub mod Entering

@@ -1,6 +1,6 @@
--- What is promised of a question on any day, and so after any log: when it is accepted, and what its sheet and legs show.
+-- What is promised of a question on any day, and so after any log.
 -- Assumes nothing.
-use Rattle.std.specs.Prelude.{List, is_ok, Decides, Result}
+use Rattle.std.specs.Prelude.{List, Result}
 use Rattle.timetable.specs.declared.hops.Hop.{Hop}
 use Rattle.fares.specs.declared.fare_state.FareState.{FareState}
 use Rattle.journeys.specs.declared.question.Question.{Question}
@@ -9,9 +9,9 @@ use Rattle.journeys.specs.Journey.{Setup}
 use Rattle.journeys.specs.NetworkFare.{fare_over}
 use Rattle.planner.specs.declared.answer.Answer.{Answer}
 use Rattle.planner.specs.declared.refusal.Refusal.{Refusal}
-use Rattle.planner.specs.Acceptance.{Acceptable}
+use Rattle.planner.specs.Asking.{Promise as PromiseOf}
 use Rattle.planner.specs.Outcome.{Memory}
-use Rattle.planner.specs.Promise.{setup_of, Promised}
+use Rattle.planner.specs.Promise.{setup_of}
 use Rattle.day_planner.specs.Log.{Basis}
 
 -- the fares of a tariff and a measure over the stops
@@ -23,9 +23,5 @@ abbrev pub journeys_over : {K W : Type 0} → Basis K W → List Hop → Questio
 journeys_over b hops q = setup_of (fare_of b) hops b.paths q
 
 -- The question q, over a basis of which these hops are meant, with the memory m, is answered r and leaves the memory n.
-pub record Promise {K W : Type 0} (b : Basis K W) (hops : List Hop) (q : Question) (m : Memory (FareState K W)) (r : Result Answer Refusal) (n : Memory (FareState K W)) : Type 0 where
-  -- it is accepted exactly where no cause stands
-  pub accepted : Decides (is_ok r) (Acceptable (fare_of b) hops b.stops b.paths q m)
-  -- sheet and legs are in their form; each row is the offer of the journey handed out with it, and is beaten by none; each
-  -- journey to the destination within the ride limit is met by a row
-  pub shown : Promised (journeys_over b hops q) q.destination q.rides r n.sheet n.legs
+abbrev pub Promise : {K W : Type 0} → Basis K W → List Hop → Question → Memory (FareState K W) → Result Answer Refusal → Memory (FareState K W) → Type 0
+Promise b hops q m r n = PromiseOf (fare_of b) hops b.stops b.paths q m r n

@@ -1,6 +1,7 @@
 ghost use Rattle.std.specs.Prelude.{◌≡◌};
 ghost use Rattle.timetable.specs.Table.{trips_of};
 ghost use Rattle.planner.specs.Lent.{memory_of, SameLists};
+ghost use Rattle.day_planner.specs.Entering.{EntryPromise, EachEntryPromise};
 ghost use Rattle.day_planner.specs.Log.{after, day_after, reply_to, memory_left, memory_after};
 ghost use Rattle.day_planner.specs.Planners.{day_in, parts_of, basis};
 
@@ -25,6 +26,7 @@ impl<T: Timetable, F: LawfulTariff, M: LawfulMeasure> Planner<T, F, M> {
         ensures day { day_in self.new ≡ after (trips_of (T.Timetable.hops (parts_of self.old).timetable)) (day_in self.old) entry }
         ensures memory { memory_of lent.new ≡ memory_left (basis T.Timetable.hops F.Tariff.model M.Measure.model (parts_of self.old) network.now) (day_in self.old) (memory_of lent.old) entry }
         ensures parts { parts_of self.new ≡ parts_of self.old }
+        ensures promise { EntryPromise (basis T.Timetable.hops F.Tariff.model M.Measure.model (parts_of self.old) network.now) (day_in self.old) (memory_of lent.old) entry result (memory_of lent.new) }
         ensures same_lists { SameLists lent.old lent.new }
     {
         match entry {
@@ -48,6 +50,7 @@ impl<T: Timetable, F: LawfulTariff, M: LawfulMeasure> Planner<T, F, M> {
         ensures day { day_in self.new ≡ day_after (trips_of (T.Timetable.hops (parts_of self.old).timetable)) (day_in self.old) log.now }
         ensures memory { memory_of lent.new ≡ memory_after (basis T.Timetable.hops F.Tariff.model M.Measure.model (parts_of self.old) network.now) (day_in self.old) (memory_of lent.old) log.now }
         ensures parts { parts_of self.new ≡ parts_of self.old }
+        ensures promises { EachEntryPromise (basis T.Timetable.hops F.Tariff.model M.Measure.model (parts_of self.old) network.now) (day_in self.old) (memory_of lent.old) log.now }
         ensures same_lists { SameLists lent.old lent.new }
     {
         for entry in log {

@@ -6,7 +6,8 @@
 // `ask_after` answers a question after a log on a new planner, and `compare` does so on two boards
 // and says whether they print the same sheet, or which of the two has `Refused`.
 // `specs/Log` says what a log makes of a day, `specs/Promise` what is promised of a question after
-// any log, `specs/Comparing` when two boards print the same sheet.
+// any log, `specs/Entering` what is promised of an entry and of each entry of a log, `specs/Comparing`
+// when two boards print the same sheet.
 mod board_planner;
 mod entering;
 mod entry;

@@ -1,10 +1,10 @@
 ghost use Rattle.std.specs.Prelude.{◌≡◌};
 ghost use Rattle.timetable.specs.Table.{trips_of};
+ghost use Rattle.service_day.specs.Causes.{MayNotCancel, MayNotReinstate, MayNotDelay, RefusesFor};
 ghost use Rattle.service_day.specs.Days.{cancelling, reinstating, delaying};
 ghost use Rattle.service_day.specs.DayStates.{first_day, after_cancel, after_reinstate, after_delay, meant_on};
 ghost use Rattle.service_day.specs.Refusals.{told};
 ghost use Rattle.planner.specs.Lent.{memory_of, Ends, SameLists};
-ghost use Rattle.planner.specs.Refusals.{numbered};
 ghost use Rattle.day_planner.specs.Log.{asked_on};
 ghost use Rattle.day_planner.specs.Planners.{day_in, parts_of, basis};
 ghost use Rattle.day_planner.specs.Promise.{Promise};
@@ -33,6 +33,7 @@ impl<T: Timetable, F: LawfulTariff, M: LawfulMeasure> Planner<T, F, M> {
     pub fn cancel(&mut self, trip: u32) -> Result<(), Refusal>
         ensures answer { result ≡ told (cancelling (trips_of (T.Timetable.hops (parts_of self.old).timetable)) trip (day_in self.old).cancelled) }
         ensures day { day_in self.new ≡ after_cancel (trips_of (T.Timetable.hops (parts_of self.old).timetable)) trip (day_in self.old) }
+        ensures causes { RefusesFor (MayNotCancel (trips_of (T.Timetable.hops (parts_of self.old).timetable)) trip (day_in self.old).cancelled) result }
         ensures parts { parts_of self.new ≡ parts_of self.old }
     {
         self.day.cancel(trip)
@@ -42,6 +43,7 @@ impl<T: Timetable, F: LawfulTariff, M: LawfulMeasure> Planner<T, F, M> {
     pub fn reinstate(&mut self, trip: u32) -> Result<(), Refusal>
         ensures answer { result ≡ told (reinstating (trips_of (T.Timetable.hops (parts_of self.old).timetable)) trip (day_in self.old).cancelled) }
         ensures day { day_in self.new ≡ after_reinstate (trips_of (T.Timetable.hops (parts_of self.old).timetable)) trip (day_in self.old) }
+        ensures causes { RefusesFor (MayNotReinstate (trips_of (T.Timetable.hops (parts_of self.old).timetable)) trip (day_in self.old).cancelled) result }
         ensures parts { parts_of self.new ≡ parts_of self.old }
     {
         self.day.reinstate(trip)
@@ -51,6 +53,7 @@ impl<T: Timetable, F: LawfulTariff, M: LawfulMeasure> Planner<T, F, M> {
     pub fn delay(&mut self, trip: u32, seconds: u32) -> Result<(), Refusal>
         ensures answer { result ≡ told (delaying (trips_of (T.Timetable.hops (parts_of self.old).timetable)) trip seconds (day_in self.old).delay) }
         ensures day { day_in self.new ≡ after_delay (trips_of (T.Timetable.hops (parts_of self.old).timetable)) trip seconds (day_in self.old) }
+        ensures causes { RefusesFor (MayNotDelay (trips_of (T.Timetable.hops (parts_of self.old).timetable)) trip seconds (day_in self.old).delay) result }
         ensures parts { parts_of self.new ≡ parts_of self.old }
     {
         self.day.delay(trip, seconds)
@@ -65,7 +68,6 @@ impl<T: Timetable, F: LawfulTariff, M: LawfulMeasure> Planner<T, F, M> {
         lent: &mut Lent<FareState<F::Ticket, M::Weight>>,
     ) -> Result<Answer, planner::Refusal>
         ensures outcome { Ends (asked_on (basis T.Timetable.hops F.Tariff.model M.Measure.model (parts_of self.now) network.now) (day_in self.now) question.now (memory_of lent.old)) result (memory_of lent.new) }
-        ensures numbers { numbered result ≡ numbered (asked_on (basis T.Timetable.hops F.Tariff.model M.Measure.model (parts_of self.now) network.now) (day_in self.now) question.now (memory_of lent.old)).answer }
         ensures promise { Promise (basis T.Timetable.hops F.Tariff.model M.Measure.model (parts_of self.now) network.now) (meant_on (day_in self.now) (T.Timetable.hops (parts_of self.now).timetable)) question.now (memory_of lent.old) result (memory_of lent.new) }
         ensures same_lists { SameLists lent.old lent.new }
     {

@@ -2,7 +2,6 @@ ghost use Rattle.std.specs.Prelude.{◌≡◌};
 ghost use Rattle.journeys.specs.Offers.{Best};
 ghost use Rattle.planner.specs.Comparing.{left_of_second, Tells};
 ghost use Rattle.planner.specs.Lent.{memory_of, Ends, SameLists};
-ghost use Rattle.planner.specs.Refusals.{numbered};
 ghost use Rattle.planner.specs.ShownOffers.{promised_shows};
 ghost use Rattle.day_planner.specs.Comparing.{compared, SameBestAfter};
 ghost use Rattle.day_planner.specs.Inquiries.{basis_of, log_of};
@@ -21,7 +20,6 @@ pub fn ask_after<T: Timetable + Drop, F: LawfulTariff + Drop, M: LawfulMeasure +
     lent: &mut Lent<FareState<F::Ticket, M::Weight>>,
 ) -> Result<Answer, Refusal>
     ensures outcome { Ends (asked_after (basis_of T.Timetable.hops F.Tariff.model M.Measure.model inquiry.entry) (log_of inquiry.entry) inquiry.entry.question (memory_of lent.old)) result (memory_of lent.new) }
-    ensures numbers { numbered result ≡ numbered (asked_after (basis_of T.Timetable.hops F.Tariff.model M.Measure.model inquiry.entry) (log_of inquiry.entry) inquiry.entry.question (memory_of lent.old)).answer }
     ensures promise { Promise (basis_of T.Timetable.hops F.Tariff.model M.Measure.model inquiry.entry) (hops_after (T.Timetable.hops inquiry.entry.timetable) (log_of inquiry.entry)) inquiry.entry.question (memory_of lent.old) result (memory_of lent.new) }
     ensures same_lists { SameLists lent.old lent.new }
 {

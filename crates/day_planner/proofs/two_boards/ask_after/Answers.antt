@@ -1,8 +1,7 @@
-use Rattle.std.proofs.Common.{ap, ◌∙◌}
+use Rattle.std.proofs.Common.{◌∙◌}
 use Rattle.fares.specs.declared.fare_state.FareState.{FareState}
 use Rattle.planner.specs.Lent.{memory_of}
 use Rattle.planner.specs.Outcome.{Memory}
-use Rattle.planner.specs.Refusals.{numbered}
 use Rattle.day_planner.specs.Inquiries.{parts_in, log_of}
 use Rattle.day_planner.specs.Planners.{day_in, parts_of}
 use Rattle.day_planner.proofs.AfterLog.{outcome_after, promise_after}
@@ -22,7 +21,6 @@ returns g c =
     let logged = c.run.ensures.same_lists in
     record {
       outcome = told;
-      numbers = ap numbered told.answer;
       promise = promise_after g.T.Timetable.hops g.F.Tariff.model g.M.Measure.model i.network (log_of i) (parts_in i) (parts_of made) (parts_of ran) (day_in made) (day_in ran) m₀ m₁
           c.new-planner.ensures.parts c.new-planner.ensures.day c.run.ensures.parts c.run.ensures.day c.run.ensures.memory i.question c.ask.result m₂ (g.T.Timetable.rule i.timetable) c.ask.ensures.promise;
       same_lists = record {
