@@ -2,3 +2,4 @@ pub mod Tickets
 pub mod Days
 pub mod Computed
 pub mod Opened
+pub mod CasesRun

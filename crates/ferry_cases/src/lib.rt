@@ -10,9 +10,15 @@
 mod board;
 mod cases;
 mod fault;
+mod running;
+#[cfg(test)]
+mod tests;
+mod worked;
 
 pub use board::{
     FERRY, FerryState, QUESTION, STOPS, ferry_constants, hop, hops, network, no_fare, tariff,
 };
 pub use cases::ferry_cases;
 pub use fault::Fault;
+pub use running::{read_case, run_case};
+pub use worked::{AskingCase, Printed, ReadingCase};

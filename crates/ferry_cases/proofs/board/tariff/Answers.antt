@@ -7,4 +7,4 @@ use Rattle.ferry_cases.proofs.board.tariff.Goals as goal
 pub returns-clause-tariff : goal.returns-clause-tariff
 returns-clause-tariff c =
     let rules : c.rule.result ∷ c.rule-2.result ∷ c.rule-3.result ∷ [] ≡ ferry_rules = λ v. c.rule.ensures v ∷ c.rule-2.ensures v ∷ c.rule-3.ensures v ∷ [] in
-    ferry_opened c.in_ok-open.field-0 c.in_ok-table.table c.in_ok-open.ensures (c.in_ok-table.ensures ∙ ap (λ r. table_opened ferry_prices r ferry_starts) rules)
+    ferry_opened c.in_ok-open.field-0 c.in_ok-table.table c.in_ok-open.ensures.opened (c.in_ok-table.ensures.opened ∙ ap (λ r. table_opened ferry_prices r ferry_starts) rules)
