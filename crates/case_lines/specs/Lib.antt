@@ -3,3 +3,5 @@ pub mod Words
 pub mod Keywords
 pub mod Fields
 pub mod Reading
+pub mod Written
+pub mod Told

@@ -18,6 +18,11 @@ pub enum Fault {
 }
 
 impl fmt::Display for Fault {
+    ghost use Rattle.std.specs.Prelude.{Some};
+    ghost use Rattle.case_lines.specs.Told.{fault_told};
+
+    ghost output = { λ fault. Some (fault_told fault) };
+
     fn fmt<W: fmt::Write>(&self, f: &mut fmt::Formatter<W>) -> fmt::Result {
         match self {
             Fault::UnknownWord => write!(f, "unknown word"),

@@ -2,6 +2,7 @@ ghost use Rattle.std.specs.Prelude.{◌≡◌};
 ghost use Rattle.case_lines.specs.Outcomes.{Gives};
 ghost use Rattle.case_lines.specs.Reading.{seen, end_of, case_of, table_of, is_claim, claim_of, bare_of, ask_of, load_at, load_of, entry_at, entry_of, said_by, line_of_words, line_of};
 ghost use Rattle.case_lines.specs.Words.{texts};
+ghost use Rattle.case_lines.specs.Written.{NumbersReadBack, ReadsBack};
 
 use crate::fault::{Fault, ReadError};
 use crate::fields::{
@@ -203,7 +204,9 @@ fn line_of(alloc: Global, words: &[&[u8]]) -> Result<Line, ReadError>
 
 // What a line says, without the line feed at its end.
 pub fn read_line(alloc: Global, text: &[u8]) -> Result<Line, ReadError>
-    ensures { Gives seen result (line_of text.now) }
+    ensures said { Gives seen result (line_of text.now) }
+    ensures numbers { NumbersReadBack }
+    ensures back { ReadsBack text.now result }
 {
     if let [REMARK, ..] = text {
         return Ok(Line::Nothing);

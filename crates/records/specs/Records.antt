@@ -1,6 +1,6 @@
 -- The lines of a record: of a case, of a board that was not opened, of a reply to a log's entry, and of a claimed sheet.
 -- Assumes nothing.
-use Rattle.std.specs.Prelude.{ℕ, ◌/◌, ◌%◌, Bool, false, List, [], ◌∷◌, ◌++◌, take, map, Ok, Err, Result, if◌then◌else◌, codes, decimal}
+use Rattle.std.specs.Prelude.{◌≡◌, ◌≢◌, ℕ, ◌/◌, ◌%◌, Bool, false, List, [], ◌∷◌, ◌++◌, take, map, Ok, Err, Result, if◌then◌else◌, codes, decimal}
 use Rattle.std.specs.Fmt.{digit_glyph}
 use Rattle.std.specs.List.{flat_map, join_with_byte}
 use Rattle.std.specs.Str.{bytes_eq}
@@ -54,8 +54,11 @@ abbrev pub hex : ℕ → List ℕ
 hex byte = digit_glyph false (byte / 16) ∷ digit_glyph false (byte % 16) ∷ []
 
 -- the bytes of a sheet, with a blank between each two
+abbrev pub sheet_text : List ℕ → List ℕ
+sheet_text bytes = join_with_byte 32 (map hex bytes)
+
 abbrev pub sheet_line : List ℕ → List ℕ
-sheet_line bytes = join_with_byte 32 (map hex bytes) ++ 10 ∷ []
+sheet_line bytes = sheet_text bytes ++ 10 ∷ []
 
 -- 0 for a walk, 1 for a ride
 abbrev pub kind_number : LegKind → ℕ
@@ -86,6 +89,20 @@ abbrev pub is_claim_met : Result Reply Refusal → List ℕ → List ℕ → Boo
 is_claim_met (Ok reply) sheet claimed = is_sheet_of reply sheet claimed
 is_claim_met (Err refusal) sheet claimed = false
 
+-- the line of a claim that is met, and of one that is not
+abbrev pub same_line : List ℕ
+same_line = codes "same" ++ 10 ∷ []
+
+abbrev pub differs_line : List ℕ
+differs_line = codes "differs" ++ 10 ∷ []
+
 -- the line of a claimed sheet
 abbrev pub claim_record : Result Reply Refusal → List ℕ → List ℕ → List ℕ
-claim_record reply sheet claimed = if is_claim_met reply sheet claimed then codes "same" ++ 10 ∷ [] else codes "differs" ++ 10 ∷ []
+claim_record reply sheet claimed = if is_claim_met reply sheet claimed then same_line else differs_line
+
+-- A claim is told to be met exactly where the question was answered and the claimed bytes are its sheet, byte by byte.
+abbrev pub ClaimIsTold : Result Reply Refusal → List ℕ → List ℕ → List ℕ → Type 0
+ClaimIsTold (Ok (Answered a)) sheet claimed line =
+    (claimed ≡ take a.bytes sheet → line ≡ same_line) × (claimed ≢ take a.bytes sheet → line ≡ differs_line)
+ClaimIsTold (Ok Done) sheet claimed line = line ≡ differs_line
+ClaimIsTold (Err refusal) sheet claimed line = line ≡ differs_line

@@ -1,11 +1,12 @@
-ghost use Rattle.std.specs.Prelude.{◌≡◌, ◌++◌, OnOk};
-ghost use Rattle.records.specs.Records.{claim_record, is_claim_met};
+ghost use Rattle.std.specs.Prelude.{◌≡◌, ◌++◌, OnOk, OnErr};
+ghost use Rattle.records.specs.Records.{claim_record, is_claim_met, ClaimIsTold};
 
 use crate::front::front_of;
 use day_planner::{Refusal, Reply};
 use std::alloc::AllocError;
 
 // Writes the line of a claimed sheet.
+#[tactic(auto, using(crate::proofs::Telling::claim_told))]
 pub fn write_claim(
     out: &mut Vec<u8>,
     reply: Result<Reply, Refusal>,
@@ -13,6 +14,8 @@ pub fn write_claim(
     claimed: &[u8],
 ) -> Result<(), AllocError>
     ensures record { OnOk result (out.new.items ≡ out.old.items ++ claim_record reply sheet.now claimed.now) }
+    ensures told { ClaimIsTold reply sheet.now claimed.now (claim_record reply sheet.now claimed.now) }
+    ensures kept { OnErr result (out.new.items ≡ out.old.items) }
 {
     if is_claim_met(reply, sheet, claimed) {
         out.extend_from_slice(b"same\n")

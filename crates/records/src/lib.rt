@@ -2,8 +2,8 @@
 // The record of a board: the lines that are written of a case, of a board that was not opened, of
 // each reply to an entry of its log, and of a sheet that was claimed.
 //
-// Each `write_` appends whole lines to the bytes written so far, and fails only where memory runs
-// out. `specs/Records` says which bytes they are.
+// Each `write_` that is public appends a whole record to the bytes written so far, or nothing where memory runs out: a
+// record is made aside, and appended once it is whole. `specs/Records` says which bytes it is.
 
 mod answering;
 mod appending;

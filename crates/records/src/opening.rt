@@ -1,4 +1,4 @@
-ghost use Rattle.std.specs.Prelude.{◌≡◌, ◌++◌, OnOk};
+ghost use Rattle.std.specs.Prelude.{◌≡◌, ◌++◌, OnOk, OnErr};
 ghost use Rattle.records.specs.Records.{opening_record};
 
 use crate::opening_refusal::OpeningRefusal;
@@ -11,6 +11,16 @@ const REST: usize = 128;
 // Writes the line of a board that was not opened.
 pub fn write_opening(out: &mut Vec<u8>, refusal: OpeningRefusal) -> Result<(), AllocError>
     ensures record { OnOk result (out.new.items ≡ out.old.items ++ opening_record refusal) }
+    ensures kept { OnErr result (out.new.items ≡ out.old.items) }
+{
+    let mut record = Vec::new(*out.allocator());
+    write_cause(&mut record, refusal)?;
+    out.extend_from_slice(&record)
+}
+
+// Writes the line of a refusal to open, by its number and its values.
+fn write_cause(out: &mut Vec<u8>, refusal: OpeningRefusal) -> Result<(), AllocError>
+    ensures { OnOk result (out.new.items ≡ out.old.items ++ opening_record refusal) }
 {
     match refusal {
         OpeningRefusal::Timetable(timetable::Refusal::BrokenRule(place)) => {

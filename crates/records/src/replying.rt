@@ -1,4 +1,4 @@
-ghost use Rattle.std.specs.Prelude.{◌≡◌, ◌++◌, OnOk};
+ghost use Rattle.std.specs.Prelude.{◌≡◌, ◌++◌, OnOk, OnErr};
 ghost use Rattle.records.specs.Records.{refusal_record, reply_record};
 
 use crate::answering::write_answered;
@@ -17,6 +17,21 @@ pub fn write_reply(
     legs: &[Leg],
 ) -> Result<(), AllocError>
     ensures record { OnOk result (out.new.items ≡ out.old.items ++ reply_record reply sheet.now legs.now) }
+    ensures kept { OnErr result (out.new.items ≡ out.old.items) }
+{
+    let mut record = Vec::new(*out.allocator());
+    write_lines(&mut record, reply, sheet, legs)?;
+    out.extend_from_slice(&record)
+}
+
+// Writes the lines of an entry that was taken, or the line of one that was refused.
+fn write_lines(
+    out: &mut Vec<u8>,
+    reply: Result<Reply, Refusal>,
+    sheet: &[u8],
+    legs: &[Leg],
+) -> Result<(), AllocError>
+    ensures { OnOk result (out.new.items ≡ out.old.items ++ reply_record reply sheet.now legs.now) }
 {
     match reply {
         Ok(Reply::Done) => out.extend_from_slice(b"ok\n"),
