@@ -1,9 +1,16 @@
 pub mod NextLine
+pub mod Fronts
 pub mod Known
 pub mod Reading
+pub mod Counting
 pub mod Onward
 pub mod Turning
 pub mod Refusing
 pub mod Taking
 pub mod Loading
 pub mod FirstBoard
+pub mod Flushing
+pub mod ToldLines
+pub mod Parting
+pub mod Joining
+pub mod Showing

@@ -8,9 +8,11 @@ use Rattle.records.specs.Records.{refused, opening_record}
 use Rattle.board_replay.specs.declared.failure.Failure.{Failure}
 use Rattle.board_replay.specs.declared.failure.Failure.TheVariants as failures
 use Rattle.board_replay.specs.Boards.{Opened, Opens, opening_cause, opened_or_skipped}
-use Rattle.board_replay.specs.Replays.{Came, onto, Turn, goes_on, next_board, wrong, turned, turn_of, skipped, Comes}
-use Rattle.board_replay.specs.Streams.{Event}
+use Rattle.board_replay.specs.Replays.{Came, onto, Turn, goes_on, next_board, wrong, turned, turn_of, skipped, Comes, Runs}
+use Rattle.board_replay.specs.Streams.{Event, Place, left_at, count_at}
+use Rattle.board_replay.specs.Writes.{AppendsFront}
 use Rattle.board_replay.proofs.Known.{where_known, known}
+use Rattle.board_replay.proofs.Onward.{front_more}
 
 -- its record is its refusal
 pub record_is : (r : OpeningRefusal) → opening_record r ≡ refused (opening_cause r).0 (opening_cause r).1
@@ -30,45 +32,76 @@ skipped_nothing [] = refl
 skipped_nothing (Err fault ∷ events) = refl
 skipped_nothing (Ok said ∷ events) = turned_nothing (turn_of said) events (skipped events) (skipped_nothing events)
 
-wrote_on : (old mid new : Option (List ℕ)) (text rest : List ℕ) → rest ≡ [] → Keeps old mid → Appends mid new text → Appends old new (text ++ rest)
-wrote_on None mid new text rest e k a = tt
-wrote_on (Some x) None new text rest e k a = absurd k
-wrote_on (Some x) (Some y) None text rest e k a = absurd a
-wrote_on (Some x) (Some y) (Some z) text rest e k a = a ∙ ap (λ l. l ++ text) k ∙ ap (λ l. x ++ l) (sym (ap (λ r. text ++ r) e ∙ append-nil text))
+-- what was kept, and then written
+wrote_after : (old mid new : Option (List ℕ)) (text : List ℕ) → Keeps old mid → Appends mid new text → Appends old new text
+wrote_after None mid new text k a = tt
+wrote_after (Some x) None new text k a = absurd k
+wrote_after (Some x) (Some y) None text k a = absurd a
+wrote_after (Some x) (Some y) (Some z) text k a = a ∙ ap (λ l. l ++ text) k
+
+kept_nothing : (old new : Option (List ℕ)) → Keeps old new → Appends old new []
+kept_nothing None new k = tt
+kept_nothing (Some x) None k = absurd k
+kept_nothing (Some x) (Some y) k = k ∙ sym (append-nil x)
 
 -- what comes of the log behind the refusal
-module _ (events : List Event) (left : Option (List Event)) (old mid new : Option (List ℕ)) (text : List ℕ) (kept : Keeps old mid) (wrote : Appends mid new text) where
+module _ (events : List Event) (count : ℕ) (after : Place) (old mid new : Option (List ℕ)) (text : List ℕ) (kept : Keeps old mid) (wrote : Appends mid new text) where
   written : Appends old new (text ++ (skipped events).written)
-  written = wrote_on old mid new text (skipped events).written (skipped_nothing events) kept wrote
+  written = subst (λ (t : List ℕ). Appends old new t) (sym (ap (λ r. text ++ r) (skipped_nothing events) ∙ append-nil text)) (wrote_after old mid new text kept wrote)
 
-  pub behind : (r : Result (Option (Vec ℕ Global)) Failure) → Comes (skipped events) r left None None → Comes (onto text (skipped events)) r left old new
+  all_front : AppendsFront old new (text ++ (skipped events).written)
+  all_front = (text, (skipped events).written, refl, wrote_after old mid new text kept wrote)
+
+  pub behind : (r : Result (Option (Vec ℕ Global)) Failure) → Comes (skipped events) count r after None None → Comes (onto text (skipped events)) count r after old new
   behind (Ok None) h = (h.0, written)
-  behind (Ok (Some name)) h = (h.0, h.1, h.2, written)
-  behind (Err (failures.Unreadable fault)) h = (h.0, written)
-  behind (Err (failures.Misplaced fault)) h = (h.0, written)
-  behind (Err failures.Memory) h = tt
-  behind (Err (failures.Input error)) h = tt
-  behind (Err failures.Endless) h = tt
+  behind (Ok (Some name)) h = (h.0, h.1, h.2, h.3, written)
+  behind (Err (failures.Unreadable fault)) h = (h.0, h.1, h.2, written)
+  behind (Err (failures.Misplaced fault)) h = (h.0, h.1, h.2, written)
+  behind (Err failures.Memory) h = all_front
+  behind (Err (failures.Input error)) h = all_front
+  behind (Err failures.Endless) h = all_front
   behind (Err (failures.Opening refusal)) h = h
 
 -- an answer that is no refusal to open
-pub opened_well : (o : Opened) (events : List Event) (r : Result (Option (Vec ℕ Global)) Failure) (left : Option (List Event)) (old new : Option (List ℕ)) → ((refusal : OpeningRefusal) → r ≡ Err (failures.Opening refusal) → ⊥)
-    → Opens o events r left old new → Comes (opened_or_skipped o events) r left old new
-opened_well (Ok came) events r left old new other h = h
-opened_well (Err c) events (Ok next) left old new other h = absurd h.0
-opened_well (Err c) events (Err (failures.Opening refusal)) left old new other h = absurd (other refusal refl)
-opened_well (Err c) events (Err failures.Memory) left old new other h = absurd h.0
-opened_well (Err c) events (Err (failures.Input error)) left old new other h = absurd h.0
-opened_well (Err c) events (Err (failures.Unreadable fault)) left old new other h = absurd h.0
-opened_well (Err c) events (Err (failures.Misplaced fault)) left old new other h = absurd h.0
-opened_well (Err c) events (Err failures.Endless) left old new other h = absurd h.0
+pub opened_well : (o : Opened) (before : Place) (r : Result (Option (Vec ℕ Global)) Failure) (after : Place) (old new : Option (List ℕ)) → ((refusal : OpeningRefusal) → r ≡ Err (failures.Opening refusal) → ⊥)
+    → Opens o before r after old new → Runs (opened_or_skipped o) before r after old new
+opened_well (Ok came) before r after old new other h = h
+opened_well (Err c) before (Ok next) after old new other h = absurd h.0
+opened_well (Err c) before (Err (failures.Opening refusal)) after old new other h = absurd (other refusal refl)
+opened_well (Err c) before (Err failures.Memory) after old new other h = absurd h.0
+opened_well (Err c) before (Err (failures.Input error)) after old new other h = absurd h.0
+opened_well (Err c) before (Err (failures.Unreadable fault)) after old new other h = absurd h.0
+opened_well (Err c) before (Err (failures.Misplaced fault)) after old new other h = absurd h.0
+opened_well (Err c) before (Err failures.Endless) after old new other h = absurd h.0
 
--- a refusal to open, its record, and then the log
-pub refused_well : (o : Opened) (left0 : Option (List Event)) (refusal : OpeningRefusal) (left : Option (List Event)) (old mid new : Option (List ℕ)) (text : List ℕ) (r : Result (Option (Vec ℕ Global)) Failure) (after : Option (List Event))
-    → IfSome left0 (λ events. Opens o events (Err (failures.Opening refusal)) left old mid) → text ≡ opening_record refusal → Appends mid new text → IfSome left (λ events. Comes (skipped events) r after None None)
-    → IfSome left0 (λ events. Comes (opened_or_skipped o events) r after old new)
-refused_well (Ok came) left0 refusal left old mid new text r after h is wrote skips = where_known left0 _ (λ events e. absurd (known (λ events. Opens (Ok came) events (Err (failures.Opening refusal)) left old mid) events e h))
-refused_well (Err c) left0 refusal left old mid new text r after h is wrote skips = where_known left0 _ (λ events e.
-    let p = known (λ events. Opens (Err c) events (Err (failures.Opening refusal)) left old mid) events e h in
-    let text_is : text ≡ refused c.0 c.1 = is ∙ record_is refusal ∙ ap (λ (n : ℕ × List ℕ). refused n.0 n.1) p.0 in
-    behind events after old mid new (refused c.0 c.1) p.2 (subst (λ (t : List ℕ). Appends mid new t) text_is wrote) r (known (λ events. Comes (skipped events) r after None None) events p.1 skips))
+module _ (o : Opened) (before here : Place) (refusal : OpeningRefusal) (old mid : Option (List ℕ)) (opens : Opens o before (Err (failures.Opening refusal)) here old mid) where
+  -- a refusal to open whose record could not be made
+  pub refused_unwritten : (after : Place) → Runs (opened_or_skipped o) before (Err failures.Memory) after old mid
+  refused_unwritten after = go o opens
+    where
+      go : (o : Opened) → Opens o before (Err (failures.Opening refusal)) here old mid → Runs (opened_or_skipped o) before (Err failures.Memory) after old mid
+      go (Ok came) h = where_known (left_at before) _ (λ events e. absurd (known (λ events. Comes (came events) (count_at before) (Err (failures.Opening refusal)) here old mid) events e h))
+      go (Err c) h = where_known (left_at before) _ (λ events e. ([], (opened_or_skipped (Err c) events).written, refl, kept_nothing old mid h.2))
+
+  module _ (new : Option (List ℕ)) (text : List ℕ) (is : text ≡ opening_record refusal) where
+    text_is : (c : ℕ × List ℕ) → opening_cause refusal ≡ c → text ≡ refused c.0 c.1
+    text_is c e = is ∙ record_is refusal ∙ ap (λ (n : ℕ × List ℕ). refused n.0 n.1) e
+
+    -- or was written in part
+    pub refused_in_part : AppendsFront mid new text → IfSome (left_at before) (λ events. AppendsFront old new (opened_or_skipped o events).written)
+    refused_in_part part = go o opens
+      where
+        go : (o : Opened) → Opens o before (Err (failures.Opening refusal)) here old mid → IfSome (left_at before) (λ events. AppendsFront old new (opened_or_skipped o events).written)
+        go (Ok came) h = where_known (left_at before) _ (λ events e. absurd (known (λ events. Comes (came events) (count_at before) (Err (failures.Opening refusal)) here old mid) events e h))
+        go (Err c) h = where_known (left_at before) _ (λ events e.
+            front_more old mid new [] text (skipped events).written (opened_or_skipped (Err c) events).written (kept_nothing old mid h.2) (ap (λ (t : List ℕ). t ++ (skipped events).written) (sym (text_is c h.0))) part)
+
+    -- its record, and then the log
+    pub refused_well : (r : Result (Option (Vec ℕ Global)) Failure) (after : Place) → Appends mid new text → Runs skipped here r after None None → Runs (opened_or_skipped o) before r after old new
+    refused_well r after wrote skips = go o opens
+      where
+        go : (o : Opened) → Opens o before (Err (failures.Opening refusal)) here old mid → Runs (opened_or_skipped o) before r after old new
+        go (Ok came) h = where_known (left_at before) _ (λ events e. absurd (known (λ events. Comes (came events) (count_at before) (Err (failures.Opening refusal)) here old mid) events e h))
+        go (Err c) h = where_known (left_at before) _ (λ events e.
+            behind events (count_at before) after old mid new (refused c.0 c.1) h.2 (subst (λ (t : List ℕ). Appends mid new t) (text_is c h.0) wrote) r
+            (known (λ events. Comes (skipped events) (count_at before) r after None None) events e (subst (λ (p : Place). Runs skipped p r after None None) h.1 skips)))

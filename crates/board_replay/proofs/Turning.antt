@@ -16,7 +16,7 @@ turned_case (next_board n) name h events came =
     ap (λ text. ends (next_case text events)) (sym (ap (λ (v : Vec ℕ Global). v.items) same ∙ h.2))
 turned_case (wrong fault) name h events came = cc
 
-turned_fault : (t : Turn) (fault : Fault) → Turns t (Err fault) → (events : List Event) (came : Came) → turned t events came ≡ ends (misplaced fault)
+turned_fault : (t : Turn) (fault : Fault) → Turns t (Err fault) → (events : List Event) (came : Came) → turned t events came ≡ ends (misplaced fault events)
 turned_fault goes_on fault h events came = cc
 turned_fault (next_board n) fault h events came = let e = h.1 in cc
 turned_fault (wrong other) fault h events came = cc
@@ -31,7 +31,7 @@ module _ (said : Said) where
   unfolding skipped
   skips_to_case name h events = turned_case (turn_of said) name h events (skipped events)
 
-  pub skips_to_fault : (fault : Fault) → Turns (turn_of said) (Err fault) → (events : List Event) → skipped (Ok said ∷ events) ≡ ends (misplaced fault)
+  pub skips_to_fault : (fault : Fault) → Turns (turn_of said) (Err fault) → (events : List Event) → skipped (Ok said ∷ events) ≡ ends (misplaced fault events)
   unfolding skipped
   skips_to_fault fault h events = turned_fault (turn_of said) fault h events (skipped events)
 
@@ -44,7 +44,7 @@ module _ {K W : Type 0} (b : Basis K W) (d : DayState) (m : Memory (FareState K 
   unfolding log_from
   logs_to_case name h events = turned_case (turn_of said) name h events (onto (said_record b d m said) (log_from b (day_after_line b d said) (memory_after_line b d m said) events))
 
-  pub logs_to_fault : (fault : Fault) → turn_of said ≡ wrong fault → (events : List Event) → log_from b d m (Ok said ∷ events) ≡ ends (misplaced fault)
+  pub logs_to_fault : (fault : Fault) → turn_of said ≡ wrong fault → (events : List Event) → log_from b d m (Ok said ∷ events) ≡ ends (misplaced fault events)
   unfolding log_from
   logs_to_fault fault h events = ap (λ t. turned t events (onto (said_record b d m said) (log_from b (day_after_line b d said) (memory_after_line b d m said) events))) h
 

@@ -1,6 +1,6 @@
 -- What comes of the lines behind those that a board was loaded with: how it opens, and how its log goes on.
 -- Assumes nothing.
-use Rattle.std.specs.Prelude.{◌≡◌, ℕ, false, true, List, replicate, Option, Some, None, Ok, Err, Result}
+use Rattle.std.specs.Prelude.{◌≡◌, ℕ, false, true, List, drop, replicate, Option, Some, None, Ok, Err, Result}
 use Rattle.std.specs.Global.{Global}
 use Rattle.std.specs.Prelude.{Vec}
 use Rattle.std.specs.Io.KnownBytes.{Keeps}
@@ -40,8 +40,8 @@ use Rattle.board_replay.specs.declared.fault.Fault.TheVariants.{NoTariff}
 use Rattle.board_replay.specs.declared.loaded.Timing.{Timing}
 use Rattle.board_replay.specs.declared.loaded.Timing.TheVariants as timings
 use Rattle.board_replay.specs.Loading.{Tariff, table, ladder, Handed}
-use Rattle.board_replay.specs.Replays.{misplaced, Came, ends, onto, log_from, skipped, Comes}
-use Rattle.board_replay.specs.Streams.{Event}
+use Rattle.board_replay.specs.Replays.{misplaced, Came, ends, onto, log_from, skipped, Runs}
+use Rattle.board_replay.specs.Streams.{Event, Place}
 
 -- the room that a board has where nothing is said of it
 abbrev pub usual_room : Room
@@ -103,7 +103,7 @@ surcharged_by (Some extra) f hops h =
 
 -- with the table or the ladder
 abbrev pub based_on : Option Tariff → List Hop → Handed → Opened
-based_on None hops h = Ok (λ events. ends (misplaced NoTariff))
+based_on None hops h = Ok (λ events. ends (misplaced NoTariff (drop 1 events)))
 based_on (Some (table starts prices)) hops h =
     then (table_opened prices h.rules starts) (λ t. surcharged_by h.surcharge (table_model prices h.rules starts) hops h)
 based_on (Some (ladder first step)) hops h =
@@ -122,7 +122,7 @@ hops_by None hops = timetable_or_cause (open_list hops)
 
 -- whether there is a tariff at all comes first, then the timetable, then the tariff
 abbrev pub opened_by : Option Tariff → Handed → Opened
-opened_by None h = Ok (λ events. ends (misplaced NoTariff))
+opened_by None h = Ok (λ events. ends (misplaced NoTariff (drop 1 events)))
 opened_by (Some tariff) h = then (hops_by h.timing h.hops) (λ hops. based_on (Some tariff) hops h)
 
 abbrev pub opened : Handed → Opened
@@ -134,7 +134,7 @@ opening_cause (Timetable refusal) = ((cause refusal).number, (cause refusal).val
 opening_cause (Table refusal) = table_cause refusal
 opening_cause (Fares refusal) = fares_cause refusal
 
--- a call opened a board, and what it answered, left and wrote is what came; or it refused, and read and wrote nothing
+-- a call refused to open a board
 abbrev pub Refuses : ℕ × List ℕ → Result (Option (Vec ℕ Global)) Failure → Type 0
 Refuses c (Ok next) = ⊥
 Refuses c (Err (failures.Opening refusal)) = opening_cause refusal ≡ c
@@ -144,9 +144,10 @@ Refuses c (Err (failures.Unreadable fault)) = ⊥
 Refuses c (Err (failures.Misplaced fault)) = ⊥
 Refuses c (Err failures.Endless) = ⊥
 
-abbrev pub Opens : Opened → List Event → Result (Option (Vec ℕ Global)) Failure → Option (List Event) → Option (List ℕ) → Option (List ℕ) → Type 0
-Opens (Ok came) events r left old new = Comes (came events) r left old new
-Opens (Err c) events r left old new = Refuses c r × (left ≡ Some events) × Keeps old new
+-- a call opened a board, and what it answered, left and wrote is what came; or it refused, and read and wrote nothing
+abbrev pub Opens : Opened → Place → Result (Option (Vec ℕ Global)) Failure → Place → Option (List ℕ) → Option (List ℕ) → Type 0
+Opens (Ok came) before r after old new = Runs came before r after old new
+Opens (Err c) before r after old new = Refuses c r × (after ≡ before) × Keeps old new
 
 -- what comes of the lines behind: a board that does not open is recorded as refused, and its log is passed over
 abbrev pub opened_or_skipped : Opened → List Event → Came

@@ -2,7 +2,10 @@ pub mod Failures
 pub mod Loading
 pub mod LogRecords
 pub mod Streams
+pub mod Told
+pub mod Writes
 pub mod Replays
 pub mod Memories
 pub mod Boards
 pub mod Files
+pub mod Endings

@@ -1,6 +1,6 @@
 -- How the lines of a board's log go on: what is recorded of them, and how that ends.
 -- Assumes nothing.
-use Rattle.std.specs.Prelude.{◌≡◌, ℕ, List, [], ◌∷◌, ◌++◌, Option, Some, None, Ok, Err, Result, Vec}
+use Rattle.std.specs.Prelude.{◌≡◌, ℕ, List, [], ◌∷◌, ◌++◌, Option, Some, None, IfSome, Ok, Err, Result, Vec}
 use Rattle.std.specs.Global.{Global}
 use Rattle.std.specs.Io.KnownBytes.{Appends}
 use Rattle.timetable.specs.Table.{trips_of}
@@ -16,7 +16,8 @@ use Rattle.board_replay.specs.declared.failure.Failure.TheVariants as failures
 use Rattle.board_replay.specs.declared.fault.Fault.{Fault}
 use Rattle.board_replay.specs.declared.fault.Fault.TheVariants.{Late}
 use Rattle.board_replay.specs.LogRecords.{entry_record, asked_record}
-use Rattle.board_replay.specs.Streams.{Event}
+use Rattle.board_replay.specs.Writes.{AppendsFront}
+use Rattle.board_replay.specs.Streams.{Event, Place, left_at, count_at, StandsBefore}
 
 -- how the lines of a board end
 pub data End : Type 0 where
@@ -24,10 +25,10 @@ pub data End : Type 0 where
   finished : End
   -- where the next board begins, with its name; these lines are left
   next_case : List ℕ → List Event → End
-  -- at a line that cannot be read
-  unreadable : LineFault → End
-  -- at a line that cannot stand where it does
-  misplaced : Fault → End
+  -- at a line that cannot be read; these are left behind it
+  unreadable : LineFault → List Event → End
+  -- at a line that cannot stand where it does; these are left behind it
+  misplaced : Fault → List Event → End
 
 -- what is recorded of lines, and how they end
 pub record Came : Type 0 where
@@ -68,7 +69,7 @@ Turns (wrong fault) r = r ≡ Err fault
 abbrev pub turned : Turn → List Event → Came → Came
 turned goes_on events came = came
 turned (next_board name) events came = ends (next_case name events)
-turned (wrong fault) events came = ends (misplaced fault)
+turned (wrong fault) events came = ends (misplaced fault events)
 
 -- what is recorded of a line of a log, on a day and with a memory
 abbrev pub said_record : {K W : Type 0} → Basis K W → DayState → Memory (FareState K W) → Said → List ℕ
@@ -100,13 +101,13 @@ memory_after_line b d m (prices starts tickets) = m
 -- the log of a board that was opened, from a day and a memory on
 unfoldable pub log_from : {K W : Type 0} → Basis K W → DayState → Memory (FareState K W) → List Event → Came
 log_from b d m [] = ends finished
-log_from b d m (Err fault ∷ events) = ends (unreadable fault)
+log_from b d m (Err fault ∷ events) = ends (unreadable fault events)
 log_from b d m (Ok said ∷ events) = turned (turn_of said) events (onto (said_record b d m said) (log_from b (day_after_line b d said) (memory_after_line b d m said) events))
 
 -- the log of a board that was not opened
 unfoldable pub skipped : List Event → Came
 skipped [] = ends finished
-skipped (Err fault ∷ events) = ends (unreadable fault)
+skipped (Err fault ∷ events) = ends (unreadable fault events)
 skipped (Ok said ∷ events) = turned (turn_of said) events (skipped events)
 
 -- a line of a log was entered: what it is, as a call answers it that may want memory
@@ -119,14 +120,19 @@ Enters turn (Err (failures.Unreadable fault)) = ⊥
 Enters turn (Err failures.Endless) = ⊥
 Enters turn (Err (failures.Opening refusal)) = ⊥
 
--- A call answered, left of the lines and wrote what came of them. Of want of memory, and of errors of reading and writing,
--- nothing is said.
-abbrev pub Comes : Came → Result (Option (Vec ℕ Global)) Failure → Option (List Event) → Option (List ℕ) → Option (List ℕ) → Type 0
-Comes c (Ok None) left old new = (c.end ≡ finished) × Appends old new c.written
-Comes c (Ok (Some name)) left old new = (rest : List Event) × (c.end ≡ next_case name.items rest) × (left ≡ Some rest) × Appends old new c.written
-Comes c (Err (failures.Unreadable fault)) left old new = (c.end ≡ unreadable fault) × Appends old new c.written
-Comes c (Err (failures.Misplaced fault)) left old new = (c.end ≡ misplaced fault) × Appends old new c.written
-Comes c (Err failures.Memory) left old new = Unit {0}
-Comes c (Err (failures.Input error)) left old new = Unit {0}
-Comes c (Err failures.Endless) left old new = Unit {0}
-Comes c (Err (failures.Opening refusal)) left old new = ⊥
+-- A call answered, left of a file of so many lines and wrote what came of them. Where memory, reading or writing failed, or
+-- the lines are endless, it wrote a front part of what comes of all of them.
+abbrev pub Comes : Came → ℕ → Result (Option (Vec ℕ Global)) Failure → Place → Option (List ℕ) → Option (List ℕ) → Type 0
+Comes c count (Ok None) after old new = (c.end ≡ finished) × Appends old new c.written
+Comes c count (Ok (Some name)) after old new =
+    (rest : List Event) × (c.end ≡ next_case name.items rest) × (left_at after ≡ Some rest) × (count_at after ≡ count) × Appends old new c.written
+Comes c count (Err (failures.Unreadable fault)) after old new = (rest : List Event) × (c.end ≡ unreadable fault rest) × StandsBefore after rest count × Appends old new c.written
+Comes c count (Err (failures.Misplaced fault)) after old new = (rest : List Event) × (c.end ≡ misplaced fault rest) × StandsBefore after rest count × Appends old new c.written
+Comes c count (Err failures.Memory) after old new = AppendsFront old new c.written
+Comes c count (Err (failures.Input error)) after old new = AppendsFront old new c.written
+Comes c count (Err failures.Endless) after old new = AppendsFront old new c.written
+Comes c count (Err (failures.Opening refusal)) after old new = ⊥
+
+-- a call went on from one place of a file to another, where the text is known
+abbrev pub Runs : (List Event → Came) → Place → Result (Option (Vec ℕ Global)) Failure → Place → Option (List ℕ) → Option (List ℕ) → Type 0
+Runs came before r after old new = IfSome (left_at before) (λ events. Comes (came events) (count_at before) r after old new)

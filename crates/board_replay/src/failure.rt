@@ -20,11 +20,15 @@ pub enum Failure {
     Misplaced(Fault),
     // what was handed in does not open; it is recorded, and the replay goes on
     Opening(OpeningRefusal),
-    // 2^64 lines were read
+    // 2^64 - 1 lines were read, and there are more
     Endless,
 }
 
 impl fmt::Display for Failure {
+    ghost use Rattle.board_replay.specs.Told.{failure_told};
+
+    ghost output = { failure_told };
+
     fn fmt<W: fmt::Write>(&self, f: &mut fmt::Formatter<W>) -> fmt::Result {
         match self {
             Failure::Memory => write!(f, "out of memory"),

@@ -14,6 +14,11 @@ pub enum Fault {
 }
 
 impl fmt::Display for Fault {
+    ghost use Rattle.std.specs.Prelude.{Some};
+    ghost use Rattle.board_replay.specs.Told.{fault_told};
+
+    ghost output = { λ fault. Some (fault_told fault) };
+
     fn fmt<W: fmt::Write>(&self, f: &mut fmt::Formatter<W>) -> fmt::Result {
         match self {
             Fault::Again => write!(f, "a second line of a kind that stands once at most"),

@@ -1,6 +1,6 @@
 ghost use Rattle.std.specs.Prelude.{◌≡◌, true, Some, None, IfSome};
 ghost use Rattle.std.specs.Io.BufRead.{strip_last};
-ghost use Rattle.board_replay.specs.Streams.{left_in, Gets, Reads};
+ghost use Rattle.board_replay.specs.Streams.{place, left_at, Gets, Reads, CountsLine, Numbers};
 
 use crate::failure::Failure;
 use case_lines::{Line, read_line};
@@ -15,7 +15,7 @@ pub struct Lines<R> {
     reader: R,
     // of the line that is read
     text: Vec<u8>,
-    // how many lines were read
+    // how many lines were read, which is the number of the last of them
     number: u64,
     // a line that was read and put back
     kept: Option<Line>,
@@ -51,24 +51,26 @@ impl<R: BufRead> Lines<R> {
         self.number
     }
 
-    // Reads a line without its line feed; false at the end.
+    // Reads a line without its line feed; false at the end. More lines than a number can count are too many.
     fn read(&mut self) -> Result<bool, Failure>
         ensures line { IfSome (R.Read.remaining self.old.reader) (λ text. Reads text result self.new.text.items (R.Read.remaining self.new.reader)) }
         ensures kept { self.new.kept ≡ self.old.kept }
+        ensures number { CountsLine self.old.number result self.new.number }
     {
         self.text.clear();
         if self.reader.read_until(LINE_FEED, &mut self.text)? == 0 {
             return Ok(false);
         }
-        self.number = self.number.saturating_add(1);
+        self.number = self.number.checked_add(1).ok_or(Failure::Endless)?;
         strip(&mut self.text);
         Ok(true)
     }
 
     // The next line, or nothing at the end.
     pub(crate) fn next(&mut self, alloc: Global) -> Result<Option<Line>, Failure>
-        ensures events { IfSome (left_in self.old.kept (R.Read.remaining self.old.reader)) (λ events. Gets events result (left_in self.new.kept (R.Read.remaining self.new.reader))) }
+        ensures events { IfSome (left_at (place R.Read.remaining self.old)) (λ events. Gets events result (left_at (place R.Read.remaining self.new))) }
         ensures kept { self.new.kept ≡ None }
+        ensures number { Numbers (place R.Read.remaining self.old) result (place R.Read.remaining self.new) }
     {
         if let Some(line) = self.kept.take() {
             return Ok(Some(line));
@@ -83,6 +85,7 @@ impl<R: BufRead> Lines<R> {
     pub(crate) fn put_back(&mut self, line: Line)
         ensures kept { self.new.kept ≡ Some line }
         ensures reader { self.new.reader ≡ self.old.reader }
+        ensures number { self.new.number ≡ self.old.number }
     {
         self.kept = Some(line);
     }

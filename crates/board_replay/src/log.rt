@@ -1,16 +1,17 @@
-ghost use Rattle.std.specs.Prelude.{◌≡◌, ◌++◌, None, IfSome, OnOk};
+ghost use Rattle.std.specs.Prelude.{◌≡◌, ◌++◌, None, OnOk};
 ghost use Rattle.planner.specs.Lent.{memory_of};
 ghost use Rattle.day_planner.specs.Planners.{day_in, parts_of, basis};
 ghost use Rattle.case_lines.specs.Reading.{seen};
 ghost use Rattle.board_replay.specs.Memories.{memory_in};
-ghost use Rattle.board_replay.specs.Replays.{Comes, Enters, Turns, turn_of, said_record, day_after_line, memory_after_line, log_from, skipped};
-ghost use Rattle.board_replay.specs.Streams.{left_in};
+ghost use Rattle.board_replay.specs.Replays.{Runs, Enters, Turns, turn_of, said_record, day_after_line, memory_after_line, log_from, skipped};
+ghost use Rattle.board_replay.specs.Streams.{place, ReadsOn};
 
 use crate::entries::{record_claim, record_entry};
 use crate::failure::Failure;
 use crate::fault::Fault;
 use crate::lines::Lines;
 use crate::memory::Memory;
+use crate::writing::write_whole;
 use case_lines::Line;
 use day_planner::Planner;
 use fares::{FareState, LawfulMeasure, LawfulTariff, Measure, Tariff};
@@ -66,7 +67,8 @@ pub(crate) fn run<
     lines: &mut Lines<R>,
     out: &mut W,
 ) -> Result<Next, Failure>
-    ensures { IfSome (left_in lines.old.kept (R.Read.remaining lines.old.reader)) (λ events. Comes (log_from (basis T.Timetable.hops F.Tariff.model M.Measure.model (parts_of planner) network.now) (day_in planner) (memory_in memory) events) result (left_in lines.new.kept (R.Read.remaining lines.new.reader)) (W.contents out.old) (W.contents out.new)) }
+    ensures log { Runs (log_from (basis T.Timetable.hops F.Tariff.model M.Measure.model (parts_of planner) network.now) (day_in planner) (memory_in memory)) (place R.Read.remaining lines.old) result (place R.Read.remaining lines.new) (W.contents out.old) (W.contents out.new) }
+    ensures lines { ReadsOn (place R.Read.remaining lines.old) result (place R.Read.remaining lines.new) }
 {
     let printout = Printout {
         sheet: &mut memory.sheet,
@@ -78,17 +80,16 @@ pub(crate) fn run<
         out: printout,
     };
     let mut text = Vec::new(alloc);
-    for _ in 0..u64::MAX {
+    loop {
         let Some(line) = lines.next(alloc)? else {
             return Ok(None);
         };
         if let Some(name) = enter_line(&mut planner, line, network, &mut lent, &mut text)? {
             return Ok(Some(name));
         }
-        out.write_all(&text)?;
+        write_whole(out, &text)?;
         text.clear();
     }
-    Err(Failure::Endless)
 }
 
 // What a line of a log is to one that does not run it: the name of the next board, or nothing where the log goes on.
@@ -104,9 +105,10 @@ fn passed_over(line: Line) -> Result<Next, Fault>
 
 // Reads the log of a board that was not opened.
 pub(crate) fn skip<R: BufRead>(alloc: Global, lines: &mut Lines<R>) -> Result<Next, Failure>
-    ensures { IfSome (left_in lines.old.kept (R.Read.remaining lines.old.reader)) (λ events. Comes (skipped events) result (left_in lines.new.kept (R.Read.remaining lines.new.reader)) None None) }
+    ensures log { Runs skipped (place R.Read.remaining lines.old) result (place R.Read.remaining lines.new) None None }
+    ensures lines { ReadsOn (place R.Read.remaining lines.old) result (place R.Read.remaining lines.new) }
 {
-    for _ in 0..u64::MAX {
+    loop {
         let Some(line) = lines.next(alloc)? else {
             return Ok(None);
         };
@@ -114,5 +116,4 @@ pub(crate) fn skip<R: BufRead>(alloc: Global, lines: &mut Lines<R>) -> Result<Ne
             return Ok(Some(name));
         }
     }
-    Err(Failure::Endless)
 }

@@ -1,11 +1,10 @@
-ghost use Rattle.std.specs.Prelude.{Some, IfSome};
-ghost use Rattle.board_replay.specs.Boards.{day_from, measured_by, measure_of, surcharged_by, based_on, opened, Opens};
+ghost use Rattle.std.specs.Prelude.{Some};
+ghost use Rattle.board_replay.specs.Boards.{day_from, measured_by, measure_of, surcharged_by, based_on, opened_by, Opens};
 ghost use Rattle.board_replay.specs.Loading.{handed, said_base};
-ghost use Rattle.board_replay.specs.Replays.{Comes};
-ghost use Rattle.board_replay.specs.Streams.{left_in};
+ghost use Rattle.board_replay.specs.Replays.{Runs};
+ghost use Rattle.board_replay.specs.Streams.{place, ReadsOn};
 
 use crate::failure::Failure;
-use crate::fault::Fault;
 use crate::lines::Lines;
 use crate::loaded::{Base, Loaded, Timing};
 use crate::log::{Next, run};
@@ -24,14 +23,13 @@ use timetable::{HopList, IntervalLine, Timetable};
 pub(crate) fn open<R: BufRead, W: Write>(
     alloc: Global,
     loaded: &Loaded,
+    base: &Base,
     lines: &mut Lines<R>,
     out: &mut W,
 ) -> Result<Next, Failure>
-    ensures { IfSome (left_in lines.old.kept (R.Read.remaining lines.old.reader)) (λ events. Opens (opened (handed loaded.now)) events result (left_in lines.new.kept (R.Read.remaining lines.new.reader)) (W.contents out.old) (W.contents out.new)) }
+    ensures opening { Opens (opened_by (Some (said_base base.now)) (handed loaded.now)) (place R.Read.remaining lines.old) result (place R.Read.remaining lines.new) (W.contents out.old) (W.contents out.new) }
+    ensures lines { ReadsOn (place R.Read.remaining lines.old) result (place R.Read.remaining lines.new) }
 {
-    let Some(base) = &loaded.base else {
-        return Err(Failure::Misplaced(Fault::NoTariff));
-    };
     match loaded.timing {
         Some(Timing::IntervalLine { interval, trips }) => {
             let line = IntervalLine::open(&loaded.hops, interval, trips).map_err(
@@ -54,7 +52,8 @@ fn with_timetable<T: Timetable + Drop, R: BufRead, W: Write>(
     lines: &mut Lines<R>,
     out: &mut W,
 ) -> Result<Next, Failure>
-    ensures { IfSome (left_in lines.old.kept (R.Read.remaining lines.old.reader)) (λ events. Opens (based_on (Some (said_base base.now)) (T.Timetable.hops timetable) (handed loaded.now)) events result (left_in lines.new.kept (R.Read.remaining lines.new.reader)) (W.contents out.old) (W.contents out.new)) }
+    ensures opening { Opens (based_on (Some (said_base base.now)) (T.Timetable.hops timetable) (handed loaded.now)) (place R.Read.remaining lines.old) result (place R.Read.remaining lines.new) (W.contents out.old) (W.contents out.new) }
+    ensures lines { ReadsOn (place R.Read.remaining lines.old) result (place R.Read.remaining lines.new) }
 {
     match base {
         Base::Table(table) => {
@@ -78,7 +77,8 @@ fn with_base<T: Timetable + Drop, F: LawfulTariff + Drop, R: BufRead, W: Write>(
     lines: &mut Lines<R>,
     out: &mut W,
 ) -> Result<Next, Failure>
-    ensures { IfSome (left_in lines.old.kept (R.Read.remaining lines.old.reader)) (λ events. Opens (surcharged_by loaded.now.surcharge (F.Tariff.model base) (T.Timetable.hops timetable) (handed loaded.now)) events result (left_in lines.new.kept (R.Read.remaining lines.new.reader)) (W.contents out.old) (W.contents out.new)) }
+    ensures opening { Opens (surcharged_by loaded.now.surcharge (F.Tariff.model base) (T.Timetable.hops timetable) (handed loaded.now)) (place R.Read.remaining lines.old) result (place R.Read.remaining lines.new) (W.contents out.old) (W.contents out.new) }
+    ensures lines { ReadsOn (place R.Read.remaining lines.old) result (place R.Read.remaining lines.new) }
 {
     match loaded.surcharge {
         Some(extra) => {
@@ -99,7 +99,8 @@ fn with_tariff<T: Timetable + Drop, F: LawfulTariff + Drop, R: BufRead, W: Write
     lines: &mut Lines<R>,
     out: &mut W,
 ) -> Result<Next, Failure>
-    ensures { IfSome (left_in lines.old.kept (R.Read.remaining lines.old.reader)) (λ events. Comes (measured_by (measure_of loaded.now.measure) (F.Tariff.model tariff) (T.Timetable.hops timetable) (handed loaded.now) events) result (left_in lines.new.kept (R.Read.remaining lines.new.reader)) (W.contents out.old) (W.contents out.new)) }
+    ensures log { Runs (measured_by (measure_of loaded.now.measure) (F.Tariff.model tariff) (T.Timetable.hops timetable) (handed loaded.now)) (place R.Read.remaining lines.old) result (place R.Read.remaining lines.new) (W.contents out.old) (W.contents out.new) }
+    ensures lines { ReadsOn (place R.Read.remaining lines.old) result (place R.Read.remaining lines.new) }
 {
     match loaded.measure() {
         MeasureName::Metres => {
@@ -139,7 +140,8 @@ fn with_measure<
     lines: &mut Lines<R>,
     out: &mut W,
 ) -> Result<Next, Failure>
-    ensures { IfSome (left_in lines.old.kept (R.Read.remaining lines.old.reader)) (λ events. Comes (day_from (F.Tariff.model tariff) (M.Measure.model measure) (T.Timetable.hops timetable) (handed loaded.now) events) result (left_in lines.new.kept (R.Read.remaining lines.new.reader)) (W.contents out.old) (W.contents out.new)) }
+    ensures log { Runs (day_from (F.Tariff.model tariff) (M.Measure.model measure) (T.Timetable.hops timetable) (handed loaded.now)) (place R.Read.remaining lines.old) result (place R.Read.remaining lines.new) (W.contents out.old) (W.contents out.new) }
+    ensures lines { ReadsOn (place R.Read.remaining lines.old) result (place R.Read.remaining lines.new) }
 {
     let room = loaded.room();
     let memory = Memory::new(alloc, &room, blank_state(&tariff, &measure))?;

@@ -1,16 +1,18 @@
-ghost use Rattle.std.specs.Prelude.{◌≡◌, false, IfSome};
+ghost use Rattle.std.specs.Prelude.{◌≡◌, Some};
 ghost use Rattle.case_lines.specs.Reading.{seen};
-ghost use Rattle.board_replay.specs.Boards.{board_from};
-ghost use Rattle.board_replay.specs.Files.{is_logged, loaded_from, first_board, Loads, TakesLine, Replayed};
-ghost use Rattle.board_replay.specs.Loading.{handed};
-ghost use Rattle.board_replay.specs.Replays.{Comes};
-ghost use Rattle.board_replay.specs.Streams.{left_in};
+ghost use Rattle.board_replay.specs.Boards.{opened_by, opened_or_skipped};
+ghost use Rattle.board_replay.specs.Files.{is_logged, first_board, LoadsOn, TakesLine, Replayed};
+ghost use Rattle.board_replay.specs.Loading.{handed, said_base};
+ghost use Rattle.board_replay.specs.Replays.{Runs};
+ghost use Rattle.board_replay.specs.Streams.{place, ReadsOn, ReadsUpTo, EndlessAt};
 
 use crate::failure::Failure;
+use crate::fault::Fault;
 use crate::lines::Lines;
-use crate::loaded::Loaded;
+use crate::loaded::{Base, Loaded};
 use crate::log::{Next, skip};
 use crate::opening::open;
+use crate::writing::write_whole;
 use case_lines::Line;
 use records::{write_case, write_opening};
 use std::alloc::Global;
@@ -59,10 +61,11 @@ fn load<R: BufRead>(
     loaded: &mut Loaded,
     lines: &mut Lines<R>,
 ) -> Result<bool, Failure>
-    ensures { IfSome (left_in lines.old.kept (R.Read.remaining lines.old.reader)) (λ events. Loads (loaded_from (handed loaded.old) false events) result (handed loaded.new) (left_in lines.new.kept (R.Read.remaining lines.new.reader))) }
+    ensures loads { LoadsOn (handed loaded.old) (place R.Read.remaining lines.old) result (handed loaded.new) (place R.Read.remaining lines.new) }
+    ensures lines { ReadsUpTo (place R.Read.remaining lines.old) result (place R.Read.remaining lines.new) }
 {
     let mut is_begun = false;
-    for _ in 0..u64::MAX {
+    loop {
         let Some(line) = lines.next(alloc)? else {
             return Ok(is_begun);
         };
@@ -76,23 +79,24 @@ fn load<R: BufRead>(
             }
         }
     }
-    Err(Failure::Endless)
 }
 
 // Opens a board and runs its log. One that does not open is recorded as refused, and its log is passed over.
 fn replay_board<R: BufRead, W: Write>(
     alloc: Global,
     loaded: &Loaded,
+    base: &Base,
     lines: &mut Lines<R>,
     out: &mut W,
 ) -> Result<Next, Failure>
-    ensures { IfSome (left_in lines.old.kept (R.Read.remaining lines.old.reader)) (λ events. Comes (board_from (handed loaded.now) events) result (left_in lines.new.kept (R.Read.remaining lines.new.reader)) (W.contents out.old) (W.contents out.new)) }
+    ensures board { Runs (opened_or_skipped (opened_by (Some (said_base base.now)) (handed loaded.now))) (place R.Read.remaining lines.old) result (place R.Read.remaining lines.new) (W.contents out.old) (W.contents out.new) }
+    ensures lines { ReadsOn (place R.Read.remaining lines.old) result (place R.Read.remaining lines.new) }
 {
-    match open(alloc, loaded, lines, out) {
+    match open(alloc, loaded, base, lines, out) {
         Err(Failure::Opening(refusal)) => {
             let mut record = Vec::new(alloc);
             write_opening(&mut record, refusal)?;
-            out.write_all(&record)?;
+            write_whole(out, &record)?;
             skip(alloc, lines)
         }
         ended => ended,
@@ -106,12 +110,16 @@ fn first_board<R: BufRead, W: Write>(
     lines: &mut Lines<R>,
     out: &mut W,
 ) -> Result<Next, Failure>
-    ensures { IfSome (left_in lines.old.kept (R.Read.remaining lines.old.reader)) (λ events. Comes (first_board is_named events) result (left_in lines.new.kept (R.Read.remaining lines.new.reader)) (W.contents out.old) (W.contents out.new)) }
+    ensures board { Runs (first_board is_named) (place R.Read.remaining lines.old) result (place R.Read.remaining lines.new) (W.contents out.old) (W.contents out.new) }
+    ensures lines { ReadsOn (place R.Read.remaining lines.old) result (place R.Read.remaining lines.new) }
 {
     let mut loaded = Loaded::nothing(alloc);
     let is_begun = load(alloc, &mut loaded, lines)?;
     if is_named | is_begun {
-        replay_board(alloc, &loaded, lines, out)
+        let Some(base) = &loaded.base else {
+            return Err(Failure::Misplaced(Fault::NoTariff));
+        };
+        replay_board(alloc, &loaded, base, lines, out)
     } else {
         skip(alloc, lines)
     }
@@ -123,17 +131,17 @@ pub fn replay<R: BufRead, W: Write>(
     lines: &mut Lines<R>,
     out: &mut W,
 ) -> Result<(), Failure>
-    ensures { IfSome (left_in lines.old.kept (R.Read.remaining lines.old.reader)) (λ events. Replayed events result (W.contents out.old) (W.contents out.new)) }
+    ensures recorded { Replayed (place R.Read.remaining lines.old) result (place R.Read.remaining lines.new) (W.contents out.old) (W.contents out.new) }
+    ensures endless { EndlessAt result (place R.Read.remaining lines.new) }
 {
     let mut is_named = false;
-    for _ in 0..u64::MAX {
+    loop {
         let Some(name) = first_board(alloc, is_named, lines, out)? else {
             return Ok(());
         };
         let mut record = Vec::new(alloc);
         write_case(&mut record, &name)?;
-        out.write_all(&record)?;
+        write_whole(out, &record)?;
         is_named = true;
     }
-    Err(Failure::Endless)
 }

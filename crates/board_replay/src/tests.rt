@@ -1,8 +1,8 @@
-use crate::{Failure, Fault, Lines, replay};
+use crate::{Failure, Fault, Lines, replay, replay_file};
 use case_lines::Fault as LineFault;
 use std::io;
-use std::io::{BufRead, BufReader, Read};
-use std::process::Abort;
+use std::io::{BufRead, BufReader, BufWriter, Read, Write};
+use std::process::{Abort, ExitCode};
 use std::test::Fail;
 
 // A file with a bad line, what was recorded before it, and the number of the line that was read last.
@@ -333,5 +333,124 @@ fn a_read_and_a_write_that_fail(rt: HostRuntime) -> Result<(), Fail> {
     );
     assert_eq!(rt; lines.number(), 3);
     assert!(rt; room.as_slice() == &record[..12]);
+    Ok(())
+}
+
+// A writer that fails once it has no more room.
+#[derive(Drop)]
+struct Full {
+    room: usize,
+    held: Vec<u8>,
+}
+
+impl Write for Full {
+    fn write(&mut self, buf: &[u8]) -> io::Result<usize> {
+        if self.room == 0 {
+            return Err(io::Error::from(io::ErrorKind::StorageFull));
+        }
+        let count = buf.len().min(self.room);
+        self.held.extend_from_slice(&buf[..count])?;
+        self.room -= count;
+        Ok(count)
+    }
+
+    fn flush(&mut self) -> io::Result<()> {
+        Ok(())
+    }
+}
+
+// What a file is told of, and the status.
+type Told = (&'static str, &'static str, &'static str, ExitCode);
+
+const TOLD: [Told; 4] = [
+    (
+        "case a\nladder 7 0\ncancel 3\n",
+        "case a\nrefused 5 3\n",
+        "",
+        ExitCode::SUCCESS,
+    ),
+    (
+        "case a\nladder 7 0\ncancel 3\n\nundo\ncancel 4\n",
+        "case a\nrefused 5 3\n",
+        "line 5: unknown word\n",
+        ExitCode::FAILURE,
+    ),
+    (
+        "case a\nladder 7 0\ncancel 3\nlist\n",
+        "case a\nrefused 5 3\n",
+        "line 4: handed in behind the first entry of the log\n",
+        ExitCode::FAILURE,
+    ),
+    (
+        "ladder 7 0\ncancel 3\ncase a\n\n# the last line",
+        "refused 5 3\ncase a\n",
+        "line 5: neither a table nor a ladder\n",
+        ExitCode::FAILURE,
+    ),
+];
+
+#[test]
+fn what_is_told_of_a_file(rt: HostRuntime) -> Result<(), Fail> {
+    let alloc = rt.alloc();
+    for (text, record, told, status) in &TOLD {
+        let mut out = BufWriter::new(alloc, Vec::new(alloc))?;
+        let mut err = Vec::new(alloc);
+        let ended = replay_file(alloc, text.as_bytes(), &mut out, &mut err)?;
+        assert!(rt; ended == *status, "{text}");
+        assert!(rt; err.as_slice() == told.as_bytes(), "{text}");
+        assert!(rt; out.get_ref().as_slice() == record.as_bytes(), "{text}");
+    }
+    Ok(())
+}
+
+#[test]
+fn what_is_told_of_a_read_and_of_a_write_that_fail(rt: HostRuntime) -> Result<(), Fail> {
+    let alloc = rt.alloc();
+    let text = b"case a\nladder 7 0\ncancel 3\ncancel 4\n";
+    let record = b"case a\nrefused 5 3\nrefused 5 4\n";
+    let stopped = b"case a\nladder 7 0\ncancel 3\nundo\n";
+
+    // in mid-stream, at the last write, and at the last write before a line that cannot be read
+    let files = [
+        (text.as_slice(), 4),
+        (text.as_slice(), 100),
+        (stopped.as_slice(), 100),
+    ];
+    for (text, capacity) in files {
+        let full = Full {
+            room: 12,
+            held: Vec::new(alloc),
+        };
+        let mut out = BufWriter::with_capacity(alloc, capacity, full)?;
+        let mut err = Vec::new(alloc);
+        let ended = replay_file(alloc, text, &mut out, &mut err)?;
+        assert!(rt; ended == ExitCode::FAILURE);
+        assert!(rt; err.as_slice() == b"no storage space\n".as_slice());
+        assert!(rt; out.get_ref().held.as_slice() == &record[..12]);
+    }
+
+    let broken = text[..27].chain(BufReader::new(alloc, Broken)?);
+    let mut out = BufWriter::new(alloc, Vec::new(alloc))?;
+    let mut err = Vec::new(alloc);
+    let ended = replay_file(alloc, broken, &mut out, &mut err)?;
+    assert!(rt; ended == ExitCode::FAILURE);
+    assert!(rt; err.as_slice() == b"timed out\n".as_slice());
+    assert!(rt; out.get_ref().as_slice() == &record[..19]);
+    Ok(())
+}
+
+#[test]
+fn what_is_told_where_telling_fails(rt: HostRuntime) -> Result<(), Fail> {
+    let alloc = rt.alloc();
+    let mut out = BufWriter::new(alloc, Vec::new(alloc))?;
+    let mut err = Full {
+        room: 12,
+        held: Vec::new(alloc),
+    };
+    let text = b"case a\nladder 7 0\ncancel 3\nundo\n";
+    let ended = replay_file(alloc, text.as_slice(), &mut out, &mut err);
+    assert!(rt; matches!(ended, Err(error) if error.kind() == io::ErrorKind::StorageFull));
+    assert!(rt; err.held.as_slice() == b"line 4: unkn".as_slice());
+    assert!(rt; out.get_ref().as_slice() == b"case a\nrefused 5 3\n".as_slice());
     Ok(())
 }

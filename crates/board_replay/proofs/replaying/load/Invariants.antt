@@ -1,9 +1,18 @@
-use Rattle.std.proofs.Common.{IfSome, false}
+use Rattle.std.proofs.Common.{◌≤◌, IfSome, false}
 use Rattle.board_replay.specs.Files.{loaded_from}
 use Rattle.board_replay.specs.Loading.{handed}
-use Rattle.board_replay.specs.Streams.{left_in}
+use Rattle.board_replay.specs.Streams.{place, left_at, count_at, lines_ahead}
 use Rattle.board_replay.proofs.Loading.{OnLoad}
 use Rattle.board_replay.proofs.replaying.load.Given as goal
 
-abbrev pub invariant-loop : goal.invariant-loop
-invariant-loop g l = IfSome (left_in l.fn.lines.kept (g.R.Read.remaining l.fn.lines.reader)) (λ all. OnLoad (loaded_from (handed l.fn.loaded) false all) (left_in l.lines.kept (g.R.Read.remaining l.lines.reader)) (handed l.loaded) l.is_begun)
+abbrev pub invariant-loop-line : goal.invariant-loop-line
+invariant-loop-line g l =
+    let start = place g.R.Read.remaining l.fn.lines in
+    let here = place g.R.Read.remaining l.lines in
+    record {
+      so_far : IfSome (left_at start) (λ all. OnLoad (loaded_from (handed l.fn.loaded) false all) (count_at start) here (handed l.loaded) l.is_begun);
+      ahead : lines_ahead here ≤ lines_ahead start;
+    }
+
+abbrev pub decreases-loop-line : goal.decreases-loop-line
+decreases-loop-line g l = lines_ahead (place g.R.Read.remaining l.lines)

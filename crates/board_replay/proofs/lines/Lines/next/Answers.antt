@@ -12,5 +12,5 @@ returns-then-not-branch-clause-events g c =
 pub returns-clause-events : goal.returns-clause-events
 returns-clause-events g c =
     one_more _ _ (sym c.take.ensures.value ∙ c.in_default.is) (c.in_ok-read.ensures.kept ∙ c.take.ensures.after) _ _ c.read.new.self.text.items c.in_ok-read_line.field-0
-    (sym (ap line_of c.deref.ensures.value) ∙ c.in_ok-read_line.ensures)
+    (sym (ap line_of c.deref.ensures.value) ∙ c.in_ok-read_line.ensures.said)
     (subst (λ (b : Bool). IfSome (g.R.Read.remaining c.args.self.now.reader) (λ text. Reads text (Ok b) c.read.new.self.text.items (g.R.Read.remaining c.read.new.self.reader))) c.if-not-branch.false c.in_ok-read.ensures.line)
