@@ -1,9 +1,9 @@
 -- Marks spare a search: what a table lists is marked. Assumes nothing.
-use Rattle.std.proofs.Common.{◌≡◌, ℕ, ◌+◌, ◌<◌, Bool, true, false, cond, ◌||◌, ◌==◌, List, [], ◌∷◌, length, take, get_or, set, replicate, sym, refl, ap, ◌∙◌, inl, inr, arith}
+use Rattle.std.proofs.Common.{◌≡◌, ℕ, ◌+◌, ◌<◌, Bool, true, false, cond, ◌||◌, ◌==◌, List, [], ◌∷◌, ◌++◌, length, take, get_or, set, replicate, sym, refl, ap, ◌∙◌, inl, inr, arith}
 use Rattle.std.proofs.Math.ListN.{get_or-eq_default}
 use Rattle.std.proofs.lemmas.Bool.{eqb-true, eq-eqb, ne_eqb, cases_eq, cases_lt, or_cases, or_left, or_right, true≢false}
 use Rattle.std.proofs.lemmas.List.{get_or-replicate, length-replicate, get_or-set_same, get_or-set_other}
-use Rattle.std.proofs.lemmas.List.Folds.{list_any_more}
+use Rattle.std.proofs.lemmas.List.Folds.{list_any_more, list_any-append}
 use Rattle.std.specs.List.{list_any}
 use Rattle.service_day.specs.declared.delay.Delay.{Delay}
 use Rattle.service_day.specs.DelayTables.{trip_of, seconds_of}
@@ -35,6 +35,27 @@ module _ {E : Type 0} (key : E → ℕ) (marks : List Bool) (sized : length mark
       or_none : (a : Bool) {b : Bool} → b ≡ false → (a || b) ≡ a
       or_none true q = refl
       or_none false q = q
+
+-- the place of a mark is one of a mark
+mark_within : (trip : ℕ) → mark_of trip < mark_count
+unfolding mark_of
+mark_within trip = omega arith
+
+-- a mark is set for an entry behind the others
+pub one_behind : {E : Type 0} (key : E → ℕ) (marks : List Bool) → length marks ≡ mark_count → (es : List E) (e : E) → MarksOf key es marks → MarksOf key (es ++ e ∷ []) (set marks (mark_of (key e)) true)
+one_behind key marks sized es e before i =
+    elim (cases_eq i (mark_of (key e))) [
+      | inl same ↦ ap (λ k. get_or (set marks (mark_of (key e)) true) k false) same
+          ∙ get_or-set_same marks (mark_of (key e)) true false (omega (arith, sized, mark_within (key e)))
+          ∙ sym (or_right (list_any (λ x. mark_of (key x) == i) es) _ (or_left (mark_of (key e) == i) false (eq-eqb (mark_of (key e)) i (sym same))))
+      | inr other ↦ get_or-set_other marks (mark_of (key e)) i true false other ∙ before i
+          ∙ sym (or_none (list_any (λ x. mark_of (key x) == i) es) (ap (λ b. b || false) (ne_eqb (mark_of (key e)) i (λ q. other (sym q)))))
+    ]
+    ∙ sym (list_any-append (λ x. mark_of (key x) == i) es (e ∷ []))
+  where
+    or_none : (a : Bool) {b : Bool} → b ≡ false → (a || b) ≡ a
+    or_none true q = refl
+    or_none false q = q
 
 module _ {E : Type 0} (key : E → ℕ) (marks : List Bool) where
   listed_marks : (es : List E) (trip : ℕ) → listed key trip es ≡ true → list_any (λ e. mark_of (key e) == mark_of trip) es ≡ true

@@ -65,7 +65,7 @@ module _ (trips trip n : ℕ) (is : n ≡ trips) (there : trip < n) (ts us : Lis
 
 -- Delays.
 
-abbrev late_entry : ℕ → ℕ → Delay
+abbrev pub late_entry : ℕ → ℕ → Delay
 late_entry trip seconds = record { trip = trip; seconds = seconds }
 
 -- other entries, and behind them the trip's

@@ -1,6 +1,6 @@
 -- Tables that list entries by trip.
 -- Assumes nothing.
-use Rattle.std.specs.Prelude.{ℕ, Bool, true, not, ◌&&◌, List, [], ◌∷◌, length, filter, ◌==◌, nat_le, nat_lt}
+use Rattle.std.specs.Prelude.{ℕ, Bool, true, not, ◌&&◌, List, [], ◌∷◌, cond, length, filter, ◌==◌, nat_le, nat_lt}
 use Rattle.std.specs.List.{list_any}
 use Rattle.timetable.specs.Table.{most_hops}
 
@@ -30,6 +30,11 @@ module _ {E : Type 0} (key : E → ℕ) where
   -- the entries of other trips, closed up
   abbrev pub without : ℕ → List E → List E
   without trip es = filter (λ e. not (key e == trip)) es
+
+  -- e in the place of the first entry of its trip, else behind all
+  abbrev pub with_entry : E → List E → List E
+  with_entry e [] = e ∷ []
+  with_entry e (x ∷ xs) = cond (key x == key e) (e ∷ xs) (x ∷ with_entry e xs)
 
   -- an entry is needed, and the table is full
   abbrev pub no_room : ℕ → List E → Bool

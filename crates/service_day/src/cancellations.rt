@@ -41,9 +41,9 @@ impl CancelledTrips {
         ensures room { result ≡ (if nat_lt (length (items self.old.trips)) most_listed then Some tt else None) }
         ensures listed { items self.new.trips ≡ (if nat_lt (length (items self.old.trips)) most_listed then items self.old.trips ++ trip ∷ [] else items self.old.trips) }
     {
-        let listed = self.trips.push(trip);
-        self.marks = marks_of(&self.trips);
-        listed
+        self.trips.push(trip)?;
+        self.marks.mark(trip);
+        Some(())
     }
 
     // Takes a trip out.

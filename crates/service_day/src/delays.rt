@@ -1,4 +1,5 @@
-ghost use Rattle.std.specs.Prelude.{◌≡◌, ◌<◌, ◌≤◌, ◌==◌, ◌&&◌, true, false, [], ◌∷◌, ◌++◌, find, length};
+ghost use Rattle.std.specs.Prelude.{◌≡◌, ◌<◌, ◌≤◌, ◌==◌, ◌&&◌, true, false, [], ◌∷◌, ◌++◌, Some, find, position, length};
+ghost use Rattle.std.specs.Option.{is_none};
 ghost use Rattle.short_list.specs.Items.{items};
 ghost use Rattle.timetable.specs.Table.{trips_of};
 ghost use Rattle.service_day.specs.Changes.{delayed_by};
@@ -10,7 +11,7 @@ ghost use Rattle.service_day.specs.LayerRule.{delayed_gentle};
 ghost use Rattle.service_day.specs.Layers.{delay_in, late_in};
 ghost use Rattle.service_day.specs.Marks.{MarksOf};
 ghost use Rattle.service_day.specs.Refusals.{told, left};
-ghost use Rattle.service_day.specs.Tables.{most_listed, trip_numbers, listed, without};
+ghost use Rattle.service_day.specs.Tables.{most_listed, trip_numbers, listed, without, with_entry, no_room};
 
 use crate::changes::moved;
 use crate::delay::Delay;
@@ -60,11 +61,24 @@ impl DelayedTrips {
         self.entry(trip).map_or(NO_DELAY, |delay| delay.seconds)
     }
 
-    // Whether an entry is needed for a trip, and none is left.
-    fn is_full_for(&self, trip: u32) -> bool
-        ensures { result ≡ (late_in self.now trip == 0 && length (items self.now.delays) == most_listed) }
+    // The place of a trip's entry.
+    fn place_of(&self, trip: u32) -> Option<usize>
+        ensures { result ≡ position (λ (d : DelayOf). d.trip == trip) (items self.now.delays) }
     {
-        self.seconds(trip) == NO_DELAY && self.delays.len() == MOST_LISTED
+        if !self.marks.has(trip) {
+            return None;
+        }
+        self.delays
+            .as_slice()
+            .iter()
+            .position(|delay| delay.trip == trip)
+    }
+
+    // Whether a trip whose entry is found at this place needs one, and none is left.
+    fn is_full_for(&self, place: Option<usize>) -> bool
+        ensures { result ≡ (is_none place && length (items self.now.delays) == most_listed) }
+    {
+        place.is_none() && self.delays.len() == MOST_LISTED
     }
 
     // Takes a trip's delay away.
@@ -85,7 +99,32 @@ impl DelayedTrips {
         ensures { items self.new.delays ≡ items self.old.delays ++ delay ∷ [] }
     {
         self.delays.push(delay).unwrap();
-        self.marks = marks_of(&self.delays);
+        self.marks.mark(delay.trip);
+    }
+
+    // Writes the delay of a listed trip over the one at its place: the marks stay, since the trips are the same.
+    fn overwrite(&mut self, place: usize, delay: Delay)
+        requires late { 0 < delay.seconds }
+        requires short { delay.seconds ≤ longest_delay }
+        requires found { Some place ≡ position (λ (d : DelayOf). d.trip == delay.trip) (items self.old.delays) }
+        ensures { items self.new.delays ≡ with_entry trip_of delay (items self.old.delays) }
+    {
+        self.delays.set(place, delay).unwrap();
+    }
+
+    // Sets the delay of a trip whose entry is found at this place.
+    fn put(&mut self, place: Option<usize>, delay: Delay)
+        requires number { delay.trip < trip_numbers }
+        requires late { 0 < delay.seconds }
+        requires short { delay.seconds ≤ longest_delay }
+        requires found { place ≡ position (λ (d : DelayOf). d.trip == delay.trip) (items self.old.delays) }
+        requires room { no_room trip_of delay.trip (items self.old.delays) ≡ false }
+        ensures { items self.new.delays ≡ with_entry trip_of delay (items self.old.delays) }
+    {
+        match place {
+            Some(place) => self.overwrite(place, delay),
+            None => self.list(delay),
+        }
     }
 }
 
@@ -134,14 +173,14 @@ impl<T: Timetable> Layer<T, DelayedTrips> {
             self.changes.strike(trip);
             return Ok(());
         }
-        if self.changes.is_full_for(trip) {
+        let place = self.changes.place_of(trip);
+        if self.changes.is_full_for(place) {
             return Err(Refusal::TableFull(trip));
         }
         if seconds > LONGEST_DELAY {
             return Err(Refusal::LongDelay(trip));
         }
-        self.changes.strike(trip);
-        self.changes.list(Delay { trip, seconds });
+        self.changes.put(place, Delay { trip, seconds });
         Ok(())
     }
 }

@@ -1,4 +1,4 @@
-ghost use Rattle.std.specs.Prelude.{◌≡◌, ◌<◌, ℕ, length};
+ghost use Rattle.std.specs.Prelude.{◌≡◌, ◌<◌, ℕ, true, length, slice_set};
 ghost use Rattle.service_day.specs.Marks.{mark_count, mark_of, marked, MarksOf};
 
 const MARKS: usize = 256;
@@ -29,6 +29,13 @@ impl TripMarks {
             marks[mark_of(trip(*entry))] = true;
         }
         TripMarks { marks }
+    }
+
+    // Marks a trip more.
+    pub(crate) fn mark(&mut self, listed: u32)
+        ensures { self.new.marks ≡ slice_set self.old.marks (mark_of listed) true }
+    {
+        self.marks[mark_of(listed)] = true;
     }
 
     // Whether a trip has a mark.

@@ -1,4 +1,4 @@
-ghost use Rattle.std.specs.Prelude.{◌≡◌, ◌≤◌, ◌++◌, [], ◌∷◌, Bool, length, filter, nat_le, nat_lt, if◌then◌else◌, option_map};
+ghost use Rattle.std.specs.Prelude.{◌≡◌, ◌≤◌, ◌++◌, [], ◌∷◌, Bool, length, filter, nat_le, nat_lt, if◌then◌else◌, option_map, slice_set};
 ghost use Rattle.std.specs.Fn.{FnReturnsAt};
 ghost use Rattle.short_list.specs.Items.{items};
 
@@ -55,17 +55,31 @@ impl<X: Copy, const N: usize> ShortList<X, N> {
         Some(())
     }
 
+    // Puts the item in the place of another, where there is one.
+    pub fn set(&mut self, place: usize, item: X) -> Option<()>
+        ensures result { result ≡ (if nat_lt place (length (items self.old)) then Some tt else None) }
+        ensures items { items self.new ≡ (if nat_lt place (length (items self.old)) then slice_set (items self.old) place item else items self.old) }
+    {
+        if place >= self.used {
+            return None;
+        }
+        self.places[place] = item;
+        Some(())
+    }
+
     // Takes out all entries but those that pass the test, and keeps their order.
     pub fn retain<F: Fn(&X) -> bool>(&mut self, keep: F)
         requires { F.IsAlwaysCallable keep }
         ensures { (test : X → Bool) → ((x : X) (b : Bool) → FnReturnsAt F.Fn keep x b → b ≡ test x) → items self.new ≡ filter test (items self.old) }
     {
-        let before = *self;
-        self.used = 0;
-        for item in before.as_slice() {
-            if keep(item) {
-                self.push(*item);
+        let mut kept = 0;
+        for place in 0..self.used {
+            let item = self.places[place];
+            if keep(&item) {
+                self.places[kept] = item;
+                kept += 1;
             }
         }
+        self.used = kept;
     }
 }

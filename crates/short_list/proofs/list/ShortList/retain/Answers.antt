@@ -1,47 +1,37 @@
-use Rattle.std.proofs.Common.{◌≡◌, ◌++◌, [], ◌∷◌, Bool, true, false, cond, length, filter, take, get_or, ℕ, ◌+◌, ◌<◌, List, refl, sym, ap, ◌∙◌, arith, length-append, length-take}
-use Rattle.std.proofs.lemmas.Bool.{cond-true, lt-ltb}
+use Rattle.std.proofs.Common.{◌≡◌, ◌+◌, Bool, ℕ, List, get_or, refl, sym, ap, ◌∙◌, subst, arith}
 use Rattle.std.proofs.lemmas.Fn.{says_at}
-use Rattle.std.proofs.lemmas.List.{take_more, take_all, append-nil}
-use Rattle.std.proofs.lemmas.List.Elements.{filter-append}
-use Rattle.short_list.specs.Items.{items}
+use Rattle.std.proofs.lemmas.List.Filters.{FiltersInPlace, FiltersInPlace-more_no, FiltersInPlace-more_set}
 use Rattle.short_list.proofs.list.ShortList.retain.Goals.{then-keep, else-keep}
 use Rattle.short_list.proofs.list.ShortList.retain.Goals as goal
 
--- one more entry, of which the test says b
-more : {X : Type 0} (test : X → Bool) (xs ys zs : List X) (i : ℕ) (x : X) (b : Bool) → i < length xs → x ≡ get_or xs i x → b ≡ test x
-    → ys ≡ filter test (take i xs) → zs ≡ ys ++ cond b (x ∷ []) [] → zs ≡ filter test (take (i + 1) xs)
-more test xs ys zs i x b h is says so_far now =
-    now
-    ∙ ap (λ l. l ++ cond b (x ∷ []) []) so_far
-    ∙ ap (λ v. filter test (take i xs) ++ cond v (x ∷ []) []) says
-    ∙ ap (λ y. filter test (take i xs) ++ filter test (y ∷ [])) is
-    ∙ sym (ap (filter test) (take_more xs i x h) ∙ filter-append test (take i xs) (get_or xs i x ∷ []))
+moved : {X : Type 0} (test : X → Bool) (xs ys zs : List X) (k m i : ℕ) → zs ≡ ys → m ≡ k → FiltersInPlace test xs ys k i → FiltersInPlace test xs zs m i
+moved test xs ys zs k m i e f s = subst (λ y. FiltersInPlace test xs y m i) (sym e) (subst (λ n. FiltersInPlace test xs ys n i) (sym f) s)
 
-pub loop-item-preserved : goal.loop-item-preserved
-loop-item-preserved g c =
-    let i = c.loop-item.item-index in
-    let x = c.item-item.result in
-    let xs = c.as_slice-item-items.result.now in
-    let ys = items c.loop-item.self in
+pub loop-place-preserved : goal.loop-place-preserved
+loop-place-preserved g c =
+    let i = c.loop-place.place in
+    let k = c.loop-place.kept in
+    let x = c.index-self-place.result in
+    let xs = c.args.self.now.places in
+    let ys = c.loop-place.self.places in
+    let y = get_or ys i x in
+    let is : y ≡ get_or ys i y = ap (λ d. get_or ys i d) c.index-self-place.is in
+    let so_far = c.loop-place.invariant.2 in
     elim c.if-keep.branch [
-      | then-keep w ↦
-          let room : length ys < g.row.N = omega (arith, ap length c.as_slice-item-items.ensures, length-take c.args.self.now.used c.args.self.now.places, c.args.self.now.fits) in
-          let now : items c.if-keep.self ≡ ys ++ x ∷ [] = ap items w.self-is ∙ w.push.ensures.items ∙ cond-true _ _ _ (lt-ltb _ _ room) in (
-            omega (arith, ap length now, length-append ys (x ∷ [])),
-            λ test says.
-                let passes : true ≡ test x = sym w.if-keep.true ∙ says x c.keep.result (says_at g.F.Fn c.keep.ensures refl) in
-                more test xs ys _ i x true c.loop-item-test.true c.item-item.is passes (c.loop-item.invariant.1 test says) now,
-          )
-      | else-keep w ↦
-          let now : items c.if-keep.self ≡ ys = ap items w.self-is in (
-            omega (arith, ap length now),
-            λ test says.
-                let fails : false ≡ test x = sym w.if-keep.false ∙ says x c.keep.result (says_at g.F.Fn c.keep.ensures refl) in
-                more test xs ys _ i x false c.loop-item-test.true c.item-item.is fails (c.loop-item.invariant.1 test says) (now ∙ sym (append-nil ys)),
-          )
+      | then-keep w ↦ (
+        omega (arith, w.kept-is, c.loop-place.invariant.0),
+        ap (λ s. s.used) w.self-is ∙ c.loop-place.invariant.1,
+        λ test says.
+            let passes = sym (says y c.keep.result (says_at g.F.Fn c.keep.ensures refl)) ∙ w.if-keep.true in
+            moved test xs _ c.if-keep.self.places (k + 1) c.if-keep.kept (i + 1) (ap (λ s. s.places) w.self-is) w.kept-is
+            (FiltersInPlace-more_set (so_far test says) (omega arith) passes is),
+      )
+      | else-keep w ↦ (
+        omega (arith, w.kept-is, c.loop-place.invariant.0),
+        ap (λ s. s.used) w.self-is ∙ c.loop-place.invariant.1,
+        λ test says.
+            let fails = sym (says y c.keep.result (says_at g.F.Fn c.keep.ensures refl)) ∙ w.if-keep.false in
+            moved test xs ys c.if-keep.self.places k c.if-keep.kept (i + 1) (ap (λ s. s.places) w.self-is) w.kept-is
+            (FiltersInPlace-more_no (so_far test says) (omega arith) fails is),
+      )
     ]
-
-pub returns : goal.returns
-returns g c = λ test says.
-    c.loop-item.invariant.1 test says
-    ∙ ap (filter test) (take_all c.loop-item.item-index c.as_slice-item-items.result.now c.loop-item-test.false ∙ c.as_slice-item-items.ensures)
