@@ -1,3 +1,4 @@
+pub mod Neighbours
 pub mod Breaks
 pub mod Opens
 pub mod Places
