@@ -3,7 +3,7 @@
 // and delays make of hops (`hops`); the ferry's day, asked after a log (`ferry`); a log entry by entry
 // and in one run (`log`); questions after a log over other timetables, tariffs and measures (`piles`);
 // two boards with timetables, tariffs and measures of different makes, compared before and after what
-// happens to them (`two_makers`). The crate has nothing of its own.
+// happens to them (`two_makers`); memory that is lent in its parts (`parts`). The crate has nothing of its own.
 
 #[cfg(test)]
 mod asked;
@@ -13,6 +13,8 @@ mod ferry;
 mod hops;
 #[cfg(test)]
 mod log;
+#[cfg(test)]
+mod parts;
 #[cfg(test)]
 mod piles;
 #[cfg(test)]

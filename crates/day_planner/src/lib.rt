@@ -24,4 +24,4 @@ pub use inquiry::Inquiry;
 pub use planner::Refused;
 pub use refusal::Refusal;
 pub use reply::Reply;
-pub use two_boards::{ask_after, compare};
+pub use two_boards::{ask_after, ask_after_in_parts, compare, compare_in_parts};

@@ -4,11 +4,11 @@ mod Legs
 mod Handing
 mod Askables
 pub mod Settled
-mod Faulty
+pub mod Faulty
 mod Answering
 pub mod Promises
 pub mod Accepting
 mod Causes
 mod Ending
 pub mod Asked
-mod SameSheets
+pub mod SameSheets

@@ -1,11 +1,15 @@
 -- Two sheets are the same bytes exactly where the two questions have the same best offers.
-use Rattle.std.proofs.Common.{◌≡◌, ℕ, ◌<◌, Bool, true, false, List, [], ◌∷◌, take, Decides, sym, refl, ap, ◌∙◌, subst, ap₂, inl, inr, arith}
+use Rattle.std.proofs.Common.{◌≡◌, ℕ, ◌<◌, Bool, true, false, List, [], ◌∷◌, take, Ok, Decides, Result, sym, refl, ap, ◌∙◌, subst, ap₂, inl, inr, arith}
+use Rattle.std.specs.Str.{bytes_eq}
+use Rattle.std.proofs.lemmas.Slice.Eq.{bytes_eq-Decides}
 use Rattle.journeys.specs.Offers.{Offer}
 use Rattle.sheet.specs.declared.rows.Row.{Row}
 use Rattle.sheet.specs.Format.{encode}
 use Rattle.sheet.specs.Rows.{Ordered}
 use Rattle.sheet.proofs.Sheets.{encode_one}
-use Rattle.planner.specs.Comparing.{Same, In, offer_of_row, SheetOfSet}
+use Rattle.planner.specs.declared.answer.Answer.{Answer}
+use Rattle.planner.specs.declared.refusal.Refusal.{Refusal}
+use Rattle.planner.specs.Comparing.{Same, In, offer_of_row, SheetOfSet, compared}
 
 -- every later row arrives later
 later : (r : Row) (rows : List Row) → Ordered (r ∷ rows) → (x : Row) → In x rows → r.arrival < x.arrival
@@ -67,3 +71,8 @@ decides_same true true d e = refl
 decides_same false false d e = refl
 decides_same true false d e = sym (e.1 (d.0 refl))
 decides_same false true d e = d.1 (e.0 refl)
+
+-- the comparison of two answered questions
+pub compared_ok : (a b : Answer) (s t : List ℕ) (A B : Result Answer Refusal) (s' t' : List ℕ) (same : Bool) → Ok a ≡ A → s ≡ s' → Ok b ≡ B → t ≡ t' → Decides same (take a.bytes s ≡ take b.bytes t) → Ok same ≡ compared A s' B t'
+compared_ok a b s t A B s' t' same p q r u d =
+    ap Ok (decides_same same (bytes_eq (take a.bytes s) (take b.bytes t)) d (bytes_eq-Decides (take a.bytes s) (take b.bytes t))) ∙ (λ v. compared (p v) (q v) (r v) (u v))

@@ -22,16 +22,16 @@ some_of_map (c ∷ cs) r (inl e) = inl e
 some_of_map (c ∷ cs) r (inr i) = inr (some_of_map cs r i)
 
 module _ {S : Type 0} (w : Setup S) (dest limit : ℕ) (answer : Answer) (bytes : List ℕ) (walked : List SheetLeg) (s : Shows w dest limit answer bytes walked) where
-  abbrev rows_shown : List Row
+  abbrev pub rows_shown : List Row
   rows_shown = map (λ c. c.row) s.connections
 
   -- a row is a best offer, and each best offer is a row
-  row_is_best : (r : Row) → In r rows_shown → Best w dest limit (offer_of_row r)
+  pub row_is_best : (r : Row) → In r rows_shown → Best w dest limit (offer_of_row r)
   row_is_best r i =
       let x = some_out (λ c. Best w dest limit (offers c) × (c.row ≡ r)) s.connections (some_each (λ c. Best w dest limit (offers c)) (λ c. c.row ≡ r) s.connections s.best (some_of_map s.connections r i)) in
       subst (λ (z : Row). Best w dest limit (offer_of_row z)) x.1.1 x.1.0
 
-  best_is_row : (r : Row) → Best w dest limit (offer_of_row r) → In r rows_shown
+  pub best_is_row : (r : Row) → Best w dest limit (offer_of_row r) → In r rows_shown
   best_is_row r b = some_map (λ c. offers c ≡ offer_of_row r) (λ x. x ≡ r) (λ c. c.row) (λ c e. row_from_offer c.row r e) s.connections (s.all (offer_of_row r) b)
 
   pub shows_best : SheetOfSet (Best w dest limit) answer.bytes bytes

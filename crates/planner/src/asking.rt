@@ -8,20 +8,20 @@ ghost use Rattle.sheet.specs.Format.{encode};
 ghost use Rattle.sheet.specs.Outcome.{laid};
 ghost use Rattle.sheet.specs.Rows.{Good};
 ghost use Rattle.planner.specs.Handout.{row_of, legs_from};
-ghost use Rattle.planner.specs.Lent.{memory_of, Ends, SameLists};
+ghost use Rattle.planner.specs.Lent.{lent, Ends, SameParts};
 ghost use Rattle.planner.specs.Limits.{fault_of};
 ghost use Rattle.planner.specs.Outcome.{scanned, refusal_of_scan};
 ghost use Rattle.planner.specs.Tracing.{Backward};
 
 use crate::answer::Answer;
 use crate::handout::rows_of;
-use crate::lent::Lent;
 use crate::limits::{check_network, check_question, check_room};
 use crate::printout::Printout;
 use crate::refusal::Refusal;
 use crate::selection::select;
 use crate::tracing::Traces;
-use journeys::{BestOffer, Fare, Full, Label, Network, Question};
+use journeys::{BestOffer, Fare, Full, Label, Network, Passenger, Question};
+use scan::LabelStore;
 use sheet::{MOST_ROWS, write};
 use short_list::ShortList;
 use timetable::Timetable;
@@ -83,19 +83,21 @@ pub(crate) fn answer<T: Timetable, F: Fare>(
     fare: &F,
     network: &Network,
     question: &Question,
-    lent: &mut Lent<F::State>,
+    store: &mut LabelStore<F::State>,
+    aboard: &mut [Passenger<F::State>],
+    out: &mut Printout,
 ) -> Result<Answer, Refusal>
-    requires { fault_of question.now network.now.stops.now network.now.paths.now (T.Timetable.hops timetable.now) (length lent.old.out.sheet.now) (length lent.old.out.legs.now) ≡ None }
-    ensures outcome { Ends (scanned (F.Fare.model fare.now) question.now.destination (memory_of lent.old) (scan_for (F.Fare.model fare.now) (T.Timetable.hops timetable.now) network.now.paths.now question.now lent.old.store.labels.now lent.old.aboard.now)) result (memory_of lent.new) }
-    ensures same_lists { SameLists lent.old lent.new }
+    requires { fault_of question.now network.now.stops.now network.now.paths.now (T.Timetable.hops timetable.now) (length out.old.sheet.now) (length out.old.legs.now) ≡ None }
+    ensures outcome { Ends (scanned (F.Fare.model fare.now) question.now.destination (lent store.old aboard.old out.old) (scan_for (F.Fare.model fare.now) (T.Timetable.hops timetable.now) network.now.paths.now question.now store.old.labels.now aboard.old)) result (lent store.new aboard.new out.new) }
+    ensures same_lists { SameParts store.old store.new out.old out.new }
 {
-    let room = lent.store.room();
-    lent.store
-        .scan(timetable, fare, network.paths, lent.aboard, question)
+    let room = store.room();
+    store
+        .scan(timetable, fare, network.paths, aboard, question)
         .map_err(|full| scan_refusal(full, room))?;
-    let offers = select(fare, lent.store.written(), question.destination)?;
+    let offers = select(fare, store.written(), question.destination)?;
     let traces = Traces {
-        labels: lent.store.written(),
+        labels: store.written(),
     };
-    Ok(print_offers(&traces, &offers, &mut lent.out))
+    Ok(print_offers(&traces, &offers, out))
 }

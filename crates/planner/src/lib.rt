@@ -28,11 +28,11 @@ mod tracing;
 mod two_boards;
 
 pub use answer::Answer;
-pub use board::{Board, ask};
+pub use board::{Board, ask, ask_in_parts};
 pub use inquiry::{Inquire, Inquiry};
 pub use lent::Lent;
 pub use limits::MOST_LEGS;
 pub use printout::Printout;
 pub use refusal::{Field, NetworkList, OutputList, Refusal};
 pub use refused::Refused;
-pub use two_boards::compare;
+pub use two_boards::{compare, compare_in_parts};

@@ -9,7 +9,7 @@ use Rattle.sheet.specs.Outcome.{laid}
 use Rattle.scan.specs.Chains.{labels_in}
 use Rattle.scan.proofs.Chains.{labels_linked}
 use Rattle.planner.specs.Handout.{row_of, legs_from}
-use Rattle.planner.specs.Lent.{memory_of}
+use Rattle.planner.specs.Lent.{lent}
 use Rattle.planner.specs.Outcome.{Memory, Leaves, scanned, refusal_of_scan}
 use Rattle.planner.proofs.Answering.{ended_leaves, came_to, store_written, many_leaves, few_leaves, many_offers, few_offers}
 use Rattle.planner.proofs.Faulty.{err_is, was_ok, was_err}
@@ -22,7 +22,7 @@ returns-in_err-map_err-clause-outcome g c =
     let hops = g.T.Timetable.hops c.args.timetable.now in
     let q = c.args.question.now in
     let paths = c.args.network.now.paths.now in
-    let m : Memory g.row.F-State.Denot = memory_of c.args.lent.now in
+    let m : Memory g.row.F-State.Denot = lent c.args.store.now c.args.aboard.now c.args.out.now in
     let r = scan_for f hops paths q m.labels m.aboard in
     let filled = scan_filled f (record { labels = length m.labels; aboard = length m.aboard }) hops paths (label_at_origin f q.origin q.departure) m.aboard q.rides in
     let k = was_err _ c.scan.result c.map_err.result c.in_err-map_err.field-0.0 c.map_err.ensures.cases c.in_err-map_err.was in
@@ -36,7 +36,7 @@ returns-in_err-offers-clause-outcome g c =
     let hops = g.T.Timetable.hops c.args.timetable.now in
     let q = c.args.question.now in
     let paths = c.args.network.now.paths.now in
-    let m : Memory g.row.F-State.Denot = memory_of c.args.lent.now in
+    let m : Memory g.row.F-State.Denot = lent c.args.store.now c.args.aboard.now c.args.out.now in
     let r = scan_for f hops paths q m.labels m.aboard in
     let k = came_to f q.destination m r (sym (was_ok _ c.scan.result c.map_err.result tt c.map_err.ensures.cases c.in_ok-map_err.was) ∙ c.scan.ensures.answer) in
     let s = k.0 in
@@ -53,7 +53,7 @@ invariant_of-traces g c =
     let hops = g.T.Timetable.hops c.args.timetable.now in
     let q = c.args.question.now in
     let paths = c.args.network.now.paths.now in
-    let m : Memory g.row.F-State.Denot = memory_of c.args.lent.now in
+    let m : Memory g.row.F-State.Denot = lent c.args.store.now c.args.aboard.now c.args.out.now in
     let k = came_to f q.destination m (scan_for f hops paths q m.labels m.aboard) (sym (was_ok _ c.scan.result c.map_err.result tt c.map_err.ensures.cases c.in_ok-map_err.was) ∙ c.scan.ensures.answer) in
     let again : labels_in c.written-2.result.now ≡ k.0.store = ap labels_in (c.written-2.ensures ∙ store_written f q.destination m (scan_for f hops paths q m.labels m.aboard) k.0 c.scan.new.self.used c.scan.new.self.labels.now k.1 c.scan.ensures.used c.scan.ensures.labels) ∙ labels_linked 0 k.0.store in
     let lim = limits q c.args.network.now.stops.now paths hops (length m.sheet) (length m.legs) c.requires in
@@ -66,7 +66,7 @@ print_offers-requires g c =
     let hops = g.T.Timetable.hops c.args.timetable.now in
     let q = c.args.question.now in
     let paths = c.args.network.now.paths.now in
-    let m : Memory g.row.F-State.Denot = memory_of c.args.lent.now in
+    let m : Memory g.row.F-State.Denot = lent c.args.store.now c.args.aboard.now c.args.out.now in
     let r = scan_for f hops paths q m.labels m.aboard in
     let k = came_to f q.destination m r (sym (was_ok _ c.scan.result c.map_err.result tt c.map_err.ensures.cases c.in_ok-map_err.was) ∙ c.scan.ensures.answer) in
     let s = k.0 in
@@ -85,7 +85,7 @@ returns-clause-outcome g c =
     let hops = g.T.Timetable.hops c.args.timetable.now in
     let q = c.args.question.now in
     let paths = c.args.network.now.paths.now in
-    let m : Memory g.row.F-State.Denot = memory_of c.args.lent.now in
+    let m : Memory g.row.F-State.Denot = lent c.args.store.now c.args.aboard.now c.args.out.now in
     let r = scan_for f hops paths q m.labels m.aboard in
     let k = came_to f q.destination m r (sym (was_ok _ c.scan.result c.map_err.result tt c.map_err.ensures.cases c.in_ok-map_err.was) ∙ c.scan.ensures.answer) in
     let s = k.0 in

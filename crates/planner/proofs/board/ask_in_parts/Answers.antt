@@ -4,12 +4,12 @@ use Rattle.journeys.specs.NetworkFare.{fare_over}
 use Rattle.journeys.specs.Scan.{scan_for}
 use Rattle.journeys.specs.Selection.{price_bound}
 use Rattle.journeys.proofs.LawfulFare.{fare_laws}
-use Rattle.planner.specs.Lent.{memory_of}
+use Rattle.planner.specs.Lent.{lent}
 use Rattle.planner.specs.Limits.{fault_of}
 use Rattle.planner.specs.Outcome.{Memory, Leaves, scanned, refused, unless, asked}
 use Rattle.planner.proofs.Asked.{ends_kept}
 use Rattle.planner.proofs.Faulty.{err_is}
-use Rattle.planner.proofs.board.ask.Goals as goal
+use Rattle.planner.proofs.board.ask_in_parts.Goals as goal
 
 pub returns-in_err-check : goal.returns-in_err-check
 returns-in_err-check g c =
@@ -20,7 +20,7 @@ returns-in_err-check g c =
     let hops = g.T.Timetable.hops c.args.board.now.timetable.now in
     let q = c.args.question.now in
     let f = fare_over t measure stops in
-    let m : Memory (FareState g.row.F-Ticket.Denot g.row.M-Weight.Denot) = memory_of c.args.lent.now in
+    let m : Memory (FareState g.row.F-Ticket.Denot g.row.M-Weight.Denot) = lent c.args.store.now c.args.aboard.now c.args.out.now in
     let is : fault_of q stops paths hops (length m.sheet) (length m.legs) ≡ Some c.in_err-check.field-0.0 = sym c.in_err-check.ensures in
     let o = scanned f q.destination m (scan_for f hops paths q m.labels m.aboard) in
     let low : (s : FareState g.row.F-Ticket.Denot g.row.M-Weight.Denot) → f.price s < price_bound = λ s. omega (arith, g.met.F.Tariff.priced c.args.board.now.tariff.now s.ticket) in
@@ -33,7 +33,7 @@ returns-in_err-check g c =
     record {
       outcome = out;
       promise = ends_kept f hops stops paths q m (g.T.Timetable.rule c.args.board.now.timetable.now) laws low c.from_residual.result m out;
-      same_lists = record { labels = refl; aboard = refl; sheet = refl; legs = refl };
+      same_lists = record { labels = refl; sheet = refl; legs = refl };
     }
 
 pub returns : goal.returns
@@ -45,8 +45,8 @@ returns g c =
     let hops = g.T.Timetable.hops c.args.board.now.timetable.now in
     let q = c.args.question.now in
     let f = fare_over t measure stops in
-    let m : Memory (FareState g.row.F-Ticket.Denot g.row.M-Weight.Denot) = memory_of c.args.lent.now in
-    let n : Memory (FareState g.row.F-Ticket.Denot g.row.M-Weight.Denot) = memory_of c.answer.new.lent in
+    let m : Memory (FareState g.row.F-Ticket.Denot g.row.M-Weight.Denot) = lent c.args.store.now c.args.aboard.now c.args.out.now in
+    let n : Memory (FareState g.row.F-Ticket.Denot g.row.M-Weight.Denot) = lent c.answer.new.store c.answer.new.aboard c.answer.new.out in
     let none : fault_of q stops paths hops (length m.sheet) (length m.legs) ≡ None = sym c.in_ok-check.ensures in
     let o = scanned f q.destination m (scan_for f hops paths q m.labels m.aboard) in
     let e : o ≡ asked f hops stops paths q m = sym (ap (λ x. unless x m o) none) in
